@@ -2,6 +2,7 @@
 use Prim.Native.Nat.{ℕ, _+_, _*_, _≤_, _<_}
 use mathlib.Core.Bool.{true}
 use mathlib.Core.Path.{_≡_}
+use native.Mathlib.Omega.{arith}
 use native.Mathlib.Nat.{le-trans, mul-le-mul-left, mul-le-mul-right, suc-mul}
 use Rattle.numbers.specs.Tests.{all, All}
 use Rattle.numbers.proofs.TestLaws.{split-and, all-true}
@@ -48,3 +49,11 @@ right b words acts bytes h =
     let p = split-and (allowed b) (all (lengthRules b words acts bytes)) h in
     let q = all-true (lengthRules b words acts bytes) (p .1) in
     record { board = p .0; words-right = q .0; acts-right = q .1 .0; bytes-right = q .1 .1 .0 }
+
+-- and so does each address of it: with room for size bytes from address x on, they end within the lent bytes
+pub range-inside : (b : Board) (tile x size : ℕ) → tile < b .tiles → x + size ≤ sizeOf b tile → startOf b tile + x + size ≤ bytesOf b
+range-inside b tile x size h l = omega (arith, tile-inside b tile h)
+
+-- its place is a small number
+pub place-small : (b : Board) (tile x : ℕ) → allowed b ≡ true → tile < b .tiles → x ≤ sizeOf b tile → startOf b tile + x ≤ 524288
+place-small b tile x a h l = omega (arith, tile-inside b tile h, bounds b a .total)

@@ -30,13 +30,13 @@ isMemory (Send s) = false
 isMemory (Receive r) = false
 isMemory (Memory m) = true
 
-pub noSend : SendFields
+unfoldable pub noSend : SendFields
 noSend = record { act = 0; «cur_crd» = 0; «max_crd» = 0; «msg_sz» = 0; «crd_ep» = 0; reply = false; «tgt_ep» = 0; «tgt_tile» = 0; «tgt_chip» = 0; label = 0 }
 
-pub noReceive : ReceiveFields
+unfoldable pub noReceive : ReceiveFields
 noReceive = record { act = 0; «rpl_eps» = 0; slots = 0; «slot_size» = 0; wpos = 0; rpos = 0; buffer = 0; occupied = 0; unread = 0 }
 
-pub noMemory : MemoryFields
+unfoldable pub noMemory : MemoryFields
 noMemory = record { act = 0; rw = 0; tile = 0; chip = 0; addr = 0; size = 0 }
 
 abbrev pub sendOf : Endpoint → SendFields

@@ -63,6 +63,14 @@ pub fn store(words: &mut [u64], tile: usize, ep: u64, e: Endpoint)
     ensures { λ _. ⌜ now (words .exit) ≡ stored (now (words .entry)) (place tile ep) e ⌝ }
 {
     let w = endpoint::words_of(e);
+    write_words(words, tile, ep, w);
+}
+
+// The endpoint ep of a tile gets the words w.
+pub fn write_words(words: &mut [u64], tile: usize, ep: u64, w: Words)
+    requires { ⌜ (tile * 192 + 192 ≤ length (now words)) × (ep < 64) ⌝ }
+    ensures { λ _. ⌜ now (words .exit) ≡ putNth (now (words .entry)) (place tile ep) w ⌝ }
+{
     write_nth(words, tile * 64 + ep as usize, w);
 }
 

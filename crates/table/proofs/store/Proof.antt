@@ -10,8 +10,6 @@ store-spec =
     tie.close
     (tie.spec
     (λ c κs. search needs)
-    (λ c. search needs)
-    (λ c. search needs)
     (λ c κs. search needs)
     (λ c. search needs)
-    (λ c. rw (← c .before .before .before .before .words-of .ensures) (c .before .before .write-nth .ensures)))
+    (λ c. rw (← c .before .before .before .before .words-of .ensures) (c .before .before .write-words .ensures)))

@@ -1,0 +1,23 @@
+-- `access::range_checks` meets its contract. Assumes nothing.
+use borrow.Author.Needs.{needs}
+use Rattle.command.proofs.CheckLaws.{checks}
+use Rattle.access.specs.Access.{rangeChecks}
+use Rattle.access.proofs.range_checks.Statement.{statement}
+use Rattle.access.proofs.range_checks.Tie as tie
+
+pub range-checks-spec : {M : Type 1} → statement M
+unfolding rangeChecks
+range-checks-spec =
+    tie.close
+    (tie.spec
+    (λ c κs. search needs)
+    (λ c. search checks depth 20)
+    (λ c κs. search needs)
+    (λ c. search checks depth 20)
+    (λ c κs. search needs)
+    (λ c. search needs)
+    (λ c. search needs)
+    (λ c. search checks depth 20)
+    (λ c κs. search needs)
+    (λ c. search checks depth 20)
+    (λ c. search checks depth 20))

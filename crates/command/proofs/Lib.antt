@@ -1,0 +1,5 @@
+pub mod CheckFacts
+pub mod CheckLaws
+pub mod CarryLaws
+pub mod CheckedLaws
+pub mod WriteLaws

@@ -1,0 +1,4 @@
+pub mod Header
+pub mod Delivery
+pub mod Target
+pub mod Stowing

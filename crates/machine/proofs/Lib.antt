@@ -1,0 +1,6 @@
+pub mod HostLaws
+pub mod Fitting
+pub mod Kept
+pub mod Demand1
+pub mod Numbers
+pub mod Session

@@ -1,0 +1,20 @@
+-- `machine::machine_right` meets its contract. Assumes nothing.
+use borrow.Author.Needs.{needs}
+use borrow.Author.Tests.{not-true, not-false}
+use mathlib.Core.Path.{sym, _∙_}
+use native.Mathlib.Omega.{arith}
+use Rattle.board.proofs.BoardLaws.{right, bounds}
+use Rattle.machine.proofs.HostLaws.{right-not, right-so}
+use Rattle.machine.proofs.machine_right.Statement.{statement}
+use Rattle.machine.proofs.machine_right.Tie as tie
+
+pub machine-right-spec : {M : Type 1} → statement M
+machine-right-spec =
+    tie.close
+    (tie.spec
+    (λ c κs. search needs)
+    (λ c. right-not _ _ _ _ _ (c .before .sizes-right .ensures) (not-true _ (c .if1 .taken)))
+    (λ c κs.
+    let r = right _ _ _ _ (sym (c .before .sizes-right .ensures) ∙ not-false _ (c .if1 .left)) in
+    (bounds _ (r .board) .few, r .words-right))
+    (λ c. right-so _ _ _ _ _ _ (c .before .before .sizes-right .ensures) (not-false _ (c .before .if1 .left)) (c .good2 .ensures)))

@@ -1,0 +1,5 @@
+pub mod Machine
+pub mod Kept
+pub mod Demand1
+pub mod Numbers
+pub mod Session

@@ -1,0 +1,3 @@
+pub mod MessageLaws
+pub mod SendLaws
+pub mod ReplyLaws

@@ -1,0 +1,3 @@
+pub mod Send
+pub mod Reply
+pub mod Ready
