@@ -1,0 +1,46 @@
+-- `wiring::range_bare` meets its contract: each endpoint passed is INVALID. Assumes nothing.
+use borrow.Author.Needs.{needs}
+use borrow.Author.Count.{below-more}
+use borrow.Author.Tests.{not-true, not-false}
+use native.Mathlib.Omega.{arith}
+use Prim.Native.Nat.{ℕ, _-_, _≤_, _<_}
+use mathlib.Core.Path.{_≡_, sym, _∙_}
+use mathlib.Core.Bool.{true}
+use Rattle.bits.proofs.SearchLaws.{all-true, all-false}
+use Rattle.table.specs.Table.{view}
+use Rattle.wiring.specs.Wiring.{bareAt}
+use Rattle.wiring.proofs.range_bare.Statement.{statement}
+use Rattle.wiring.proofs.range_bare.Tie as tie
+
+abbrev Inv-loop : tie.InvT-loop
+Inv-loop words q g n i₀ i = (i ≤ n) × ((k : ℕ) → k < i → bareAt (view words) q g k ≡ true)
+
+abbrev μ-loop : tie.MeasureT-loop
+μ-loop words q g n i₀ i = n - i
+
+returns : tie.Need-returns Inv-loop μ-loop
+returns c =
+    let l = c .before .before .before in
+    sym (all-false _ _ (l .loop .i) (omega arith) (sym (c .before .bare-at .ensures) ∙ not-true _ (c .if1 .taken)))
+
+loop-again : tie.Need-loop-again Inv-loop μ-loop
+loop-again c = (omega arith, below-more _ _ (c .before .before .before .loop .inv .1) (sym (c .before .bare-at .ensures) ∙ not-false _ (c .if1 .left)))
+
+returns-2 : tie.Need-returns-2 Inv-loop μ-loop
+returns-2 c = sym (all-true _ _ (λ k l. c .before .loop .inv .1 k (omega arith)))
+
+pub range-bare-spec : {M : Type 1} → statement M
+range-bare-spec =
+    tie.close
+    (tie.spec
+    Inv-loop
+    μ-loop
+    (λ c. search needs)
+    (λ c κs. search needs)
+    (λ c. (omega arith, (λ k l. absurd (omega arith))))
+    (λ c κs. omega arith)
+    returns
+    (λ c. omega arith)
+    (λ c. omega arith)
+    loop-again
+    returns-2)
