@@ -68,11 +68,13 @@ pub fn find_slot(mask: u32, pos: u32, slots: u32, wanted: bool) -> Found
 {
     let n: u32 = 1 << slots;
     let mut far: u32 = 0;
+    // carried from step to step: a slot made of far alone would become vector code, which needs more stack
+    let mut slot = pos % n;
     while far < n {
-        let slot = (pos + far) % n;
         if test(mask, slot) == wanted {
             return Found::At { slot, far };
         }
+        slot = (slot + 1) % n;
         far += 1;
     }
     Found::Nothing
