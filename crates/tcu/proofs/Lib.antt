@@ -1,0 +1,3 @@
+pub mod InterfaceLaws
+pub mod ListLaws
+pub mod RoundTrip

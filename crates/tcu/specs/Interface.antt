@@ -1,0 +1,84 @@
+-- What a C caller gets: the number of the answer, and all that it lent, as they are afterwards. Each is a function of what the
+-- library's call comes to, with document 01's number for the answer. A refusal changes nothing.
+use Prim.Native.Nat.{ℕ}
+use mathlib.Core.Bool.{_&&_}
+use mathlib.Core.List.{List, [], _∷_}
+use lib.Dec.{eqb}
+use lib.ListN.{length}
+use Rattle.numbers.specs.Choice.{_gives_else_}
+use Rattle.answers.specs.Answers.{codeOf, numberOf}
+use Rattle.answers.specs.declared.Error.the-variants.{BadMachine, BadConfig}
+use Rattle.board.specs.Board.{memoryAllowed}
+use Rattle.board.specs.declared.Board.{Board}
+use Rattle.endpoint.specs.Turning.{unpackOf, packOf}
+use Rattle.endpoint.specs.declared.Words.{Words}
+use Rattle.endpoint.specs.declared.Unpacked.{Unpacked}
+use Rattle.endpoint.specs.declared.Packed.{Packed}
+use Rattle.command.specs.Outcome.{Outcome}
+use Rattle.command.specs.declared.Registers.{Registers}
+use Rattle.wiring.specs.declared.Wiring.{Wiring}
+use Rattle.tcu.specs.Fields.{fieldValues, Named, names, nothing, endpointOf}
+
+-- ---- what the caller passes, as the library takes it
+abbrev pub board : (tiles memory : ℕ) → Board
+board tiles memory = record { tiles = tiles; memory = memory }
+
+abbrev pub registers : (arg0 addr size arg1 : ℕ) → Registers
+registers arg0 addr size arg1 = record { arg0 = arg0; addr = addr; size = size; arg1 = arg1 }
+
+abbrev pub three : (first second third : ℕ) → Words
+three first second third = record { first = first; second = second; third = third }
+
+-- ---- a call of the machine: the number, ARG_1, the words and the bytes
+pub record Returned : Type 0 where
+  pub number : ℕ
+  pub arg1 : ℕ
+  pub words : List ℕ
+  pub bytes : List ℕ
+
+unfoldable pub returned : ℕ → ℕ → List ℕ → List ℕ → Returned
+returned n x ws bs = record { number = n; arg1 = x; words = ws; bytes = bs }
+
+unfoldable pub inC : Outcome → Returned
+inC o = returned (numberOf (o .completion .answer)) (o .completion .arg1) (o .words) (o .bytes)
+
+-- ---- the wiring check: 1 for yes and 0 for no
+abbrev pub wiringInC : Wiring → ℕ
+wiringInC Wiring.Yes = 1
+wiringInC Wiring.No = 0
+wiringInC (Wiring.Refused e) = codeOf e
+
+-- ---- words into fields, or back: the number, and the list that was lent for them
+pub record Turned : Type 0 where
+  pub number : ℕ
+  pub list : List ℕ
+
+unfoldable pub turned : ℕ → List ℕ → Turned
+turned n l = record { number = n; list = l }
+
+-- the words w into a list, l before: BAD_MACHINE where it has not eleven numbers
+unfoldable pub fieldsInC : List ℕ → Unpacked → Turned
+fieldsInC l (Unpacked.Fields e) = turned 0 (fieldValues e)
+fieldsInC l (Unpacked.Refused x) = turned (codeOf x) l
+
+unfoldable pub unpackInC : ℕ → Words → List ℕ → Turned
+unpackInC m w l = eqb (length l) 11 gives fieldsInC l (unpackOf m w) else turned (codeOf BadMachine) l
+
+-- the eleven numbers l into words: BAD_CONFIG where they name no endpoint
+unfoldable pub packNamed : ℕ → Named → Packed
+packNamed m (names e) = packOf m e
+packNamed m nothing = Packed.Refused BadConfig
+
+unfoldable pub packList : ℕ → List ℕ → Packed
+packList m l = memoryAllowed m gives packNamed m (endpointOf l) else Packed.Refused BadMachine
+
+-- the numbers l into three words, ws before: BAD_MACHINE for any other lengths
+abbrev pub listOf : Words → List ℕ
+listOf w = w .first ∷ w .second ∷ w .third ∷ []
+
+unfoldable pub wordsInC : List ℕ → Packed → Turned
+wordsInC ws (Packed.Words w) = turned 0 (listOf w)
+wordsInC ws (Packed.Refused x) = turned (codeOf x) ws
+
+unfoldable pub packInC : ℕ → List ℕ → List ℕ → Turned
+packInC m l ws = eqb (length l) 11 && eqb (length ws) 3 gives wordsInC ws (packList m l) else turned (codeOf BadMachine) ws

@@ -1,0 +1,29 @@
+-- Demand 2 over the lists of the C interface: acceptable words become fields and the same words again, and the other way round.
+-- And no second answer or list fits a promise of this interface. Statements; the proofs are in proofs/RoundTrip.antt.
+use Prim.Native.Nat.{ℕ}
+use mathlib.Core.List.{List}
+use mathlib.Core.Logic.{_↔_}
+use mathlib.Core.Path.{_≡_}
+use lib.ListN.{length}
+use Rattle.numbers.specs.Tests.{All}
+use Rattle.endpoint.specs.Acceptable.{fits}
+use Rattle.endpoint.specs.declared.Words.{Words}
+use Rattle.endpoint.specs.declared.Endpoint.{Endpoint}
+use Rattle.tcu.specs.Fields.{fieldValues, names, endpointOf}
+use Rattle.tcu.specs.Interface.{listOf, Returned, returned, Turned, turned, unpackInC, packInC}
+
+-- a list names an endpoint exactly where it is that endpoint's list and each field fits its bits
+abbrev pub Inverse : Type 0
+Inverse = (l : List ℕ) (e : Endpoint) → (endpointOf l ≡ names e) ↔ ((fieldValues e ≡ l) × All (fits e))
+
+-- tcu_unpack gives the list f for the words w exactly where tcu_pack gives the words w for the list f, whatever stood before in
+-- what was lent for them
+abbrev pub RoundTrip : Type 0
+RoundTrip =
+    (m : ℕ) (w : Words) (f l ws : List ℕ) → length l ≡ 11 → length ws ≡ 3
+    → (unpackInC m w l ≡ turned 0 f) ↔ (packInC m f ws ≡ turned 0 (listOf w))
+
+-- no second answer or end state fits
+pub record Only : Type 0 where
+  pub calls : (o : Returned) (n k x y : ℕ) (us vs bs cs : List ℕ) → returned n x us bs ≡ o → returned k y vs cs ≡ o → (n ≡ k) × (x ≡ y) × (us ≡ vs) × (bs ≡ cs)
+  pub lists : (o : Turned) (n k : ℕ) (us vs : List ℕ) → turned n us ≡ o → turned k vs ≡ o → (n ≡ k) × (us ≡ vs)

@@ -1,0 +1,175 @@
+// The C interface (`include/tcu.h`). Each function asks nothing of its caller, and promises what the function behind it does, with
+// document 01's number for the answer (`specs/Interface.antt`).
+ghost use mathlib.Core.Path.{_≡_};
+ghost use Rattle.command.specs.Outcome.{carried};
+ghost use Rattle.machine.specs.Machine.{commandOf, configureOf, invalidateOf};
+ghost use Rattle.wiring.specs.Wiring.{wiringOf};
+ghost use Rattle.tcu.specs.Interface.{board, registers, three, returned, inC, wiringInC, turned, unpackInC, packInC};
+use answers::Error;
+use board::Board;
+use command::Registers;
+use endpoint::Packed;
+use endpoint::Unpacked;
+use endpoint::Words;
+use wiring::Wiring;
+
+mod lists;
+
+// Carries out one command of a tile. ARG_1 comes back where it was given.
+#[no_mangle]
+pub extern "C" fn tcu_command(
+    tiles: u64,
+    memory: u64,
+    words: &mut [u64],
+    acts: &[u16],
+    mem: &mut [u8],
+    tile: u64,
+    opcode: u64,
+    endpoint: u64,
+    arg0: u64,
+    data_addr: u64,
+    data_size: u64,
+    arg1: &mut u64,
+) -> u32
+    ensures { λ r. ⌜ returned r (now (arg1 .exit)) (now (words .exit)) (now (mem .exit)) ≡ inC (carried (now (arg1 .entry)) (now (words .entry)) (now (mem .entry)) (commandOf (board tiles memory) (now (words .entry)) (now (acts .entry)) (now (mem .entry)) tile opcode endpoint (registers arg0 «data_addr» «data_size» (now (arg1 .entry))))) ⌝ }
+{
+    let given = *arg1;
+    let done = machine::carry_out(
+        Board { tiles, memory },
+        words,
+        acts,
+        mem,
+        tile,
+        opcode,
+        endpoint,
+        Registers {
+            arg0,
+            addr: data_addr,
+            size: data_size,
+            arg1: given,
+        },
+    );
+    *arg1 = done.arg1;
+    let answer = done.answer;
+    answers::number(answer)
+}
+
+// Gives an endpoint of a tile three words.
+#[no_mangle]
+pub extern "C" fn tcu_configure(
+    tiles: u64,
+    memory: u64,
+    words: &mut [u64],
+    acts: &[u16],
+    mem: &[u8],
+    tile: u64,
+    endpoint: u64,
+    first: u64,
+    second: u64,
+    third: u64,
+) -> u32
+    ensures { λ r. ⌜ returned r 0 (now (words .exit)) (now (mem .entry)) ≡ inC (carried 0 (now (words .entry)) (now (mem .entry)) (configureOf (board tiles memory) (now (words .entry)) (now (acts .entry)) (now (mem .entry)) tile endpoint (three first second third))) ⌝ }
+{
+    let answer = machine::configure(
+        Board { tiles, memory },
+        words,
+        acts,
+        mem,
+        tile,
+        endpoint,
+        Words {
+            first,
+            second,
+            third,
+        },
+    );
+    answers::number(answer)
+}
+
+// Makes an endpoint of a tile INVALID.
+#[no_mangle]
+pub extern "C" fn tcu_invalidate(
+    tiles: u64,
+    memory: u64,
+    words: &mut [u64],
+    acts: &[u16],
+    mem: &[u8],
+    tile: u64,
+    endpoint: u64,
+) -> u32
+    ensures { λ r. ⌜ returned r 0 (now (words .exit)) (now (mem .entry)) ≡ inC (carried 0 (now (words .entry)) (now (mem .entry)) (invalidateOf (board tiles memory) (now (words .entry)) (now (acts .entry)) (now (mem .entry)) tile endpoint)) ⌝ }
+{
+    let answer = machine::invalidate(Board { tiles, memory }, words, acts, mem, tile, endpoint);
+    answers::number(answer)
+}
+
+// Tells whether the wiring is sound.
+#[no_mangle]
+pub extern "C" fn tcu_wiring(
+    tiles: u64,
+    memory: u64,
+    words: &[u64],
+    acts: &[u16],
+    mem: &[u8],
+) -> u32
+    ensures { λ r. ⌜ r ≡ wiringInC (wiringOf (board tiles memory) (now (words .entry)) (now (acts .entry)) (now (mem .entry))) ⌝ }
+{
+    let found = wiring::check_wiring(Board { tiles, memory }, words, acts, mem);
+    match found {
+        Wiring::Yes => 1,
+        Wiring::No => 0,
+        Wiring::Refused(e) => answers::code(e),
+    }
+}
+
+// Turns three words into the eleven numbers of an endpoint.
+#[no_mangle]
+pub extern "C" fn tcu_unpack(
+    memory: u64,
+    first: u64,
+    second: u64,
+    third: u64,
+    fields: &mut [u64],
+) -> u32
+    ensures { λ r. ⌜ turned r (now (fields .exit)) ≡ unpackInC memory (three first second third) (now (fields .entry)) ⌝ }
+{
+    if fields.len() != 11 {
+        return answers::code(Error::BadMachine);
+    }
+    let found = endpoint::unpack(
+        memory,
+        Words {
+            first,
+            second,
+            third,
+        },
+    );
+    match found {
+        Unpacked::Fields(e) => {
+            lists::write(fields, e);
+            0
+        }
+        Unpacked::Refused(e) => answers::code(e),
+    }
+}
+
+// Turns the eleven numbers of an endpoint into three words.
+#[no_mangle]
+pub extern "C" fn tcu_pack(memory: u64, fields: &[u64], words: &mut [u64]) -> u32
+    ensures { λ r. ⌜ turned r (now (words .exit)) ≡ packInC memory (now (fields .entry)) (now (words .entry)) ⌝ }
+{
+    if fields.len() != 11 {
+        return answers::code(Error::BadMachine);
+    }
+    if words.len() != 3 {
+        return answers::code(Error::BadMachine);
+    }
+    let found = lists::pack(memory, fields);
+    match found {
+        Packed::Words(w) => {
+            table::write_nth(words, 0, w);
+            0
+        }
+        Packed::Refused(e) => answers::code(e),
+    }
+}

@@ -1,0 +1,312 @@
+/*
+ * Makes the calls of the comparison on the library. Batches come in on standard
+ * input, replies go out on standard output; host/src/wire.rs describes both. The
+ * numbers on the line are least byte first, as on every x86-64 machine.
+ *
+ * All that the library is lent stands between guard bytes and beside a copy.
+ * After each call the guards are tested, and what differs from the copy is
+ * reported, word by word and byte by byte.
+ */
+#include <inttypes.h>
+#include <stdio.h>
+#include <stdlib.h>
+#include <string.h>
+#include "tcu.h"
+
+enum { GUARD = 64, GUARD_BYTE = 0xA5, BLOCK = 4096, HEAD = 15 };
+
+/* The bits of a reply's faults, in the order of FAULTS in wire.rs. */
+enum fault {
+    BESIDE_WORDS, BESIDE_ACTS, BESIDE_MEM, BESIDE_FIELDS, BESIDE_PACKED, BESIDE_ARG1,
+    INTO_ACTS, INTO_WORDS, INTO_MEM, INTO_FIELDS
+};
+
+enum function { COMMAND, CONFIGURE, INVALIDATE, WIRING, UNPACK, PACK };
+
+/* A slice that is lent: guard, data, guard; and a copy of the data. */
+struct lent {
+    unsigned char *block;
+    unsigned char *data;
+    unsigned char *copy;
+    size_t bytes;
+};
+
+static struct lent words, acts, mem, fields, packed, arg1;
+
+/* The ranges of the memory that the last call has changed. */
+static struct range {
+    size_t start, end;
+} *ranges;
+static size_t range_count, range_room;
+
+/* A call as it comes in; the fields and the packed words follow it. */
+struct call {
+    uint64_t function, tiles, memory, words_len, acts_len, mem_len;
+    uint64_t tile, endpoint, numbers[5];
+    uint64_t fields_len, packed_len;
+};
+
+static void fail(const char *what)
+{
+    fprintf(stderr, "runner: %s\n", what);
+    exit(2);
+}
+
+static void take(void *to, size_t bytes)
+{
+    if (bytes != 0 && fread(to, bytes, 1, stdin) != 1)
+        fail("the input ends within a batch");
+}
+
+static void put(const void *from, size_t bytes)
+{
+    if (bytes != 0 && fwrite(from, bytes, 1, stdout) != 1)
+        fail("cannot write");
+}
+
+static void put_number(uint64_t number)
+{
+    put(&number, sizeof number);
+}
+
+/* Makes room for a slice of this size, with fresh guards around it. */
+static void lend(struct lent *slice, size_t bytes)
+{
+    slice->block = realloc(slice->block, bytes + 2 * GUARD);
+    slice->copy = realloc(slice->copy, bytes + 1);
+    if (slice->block == NULL || slice->copy == NULL)
+        fail("no memory left");
+    slice->data = slice->block + GUARD;
+    slice->bytes = bytes;
+    memset(slice->block, GUARD_BYTE, GUARD);
+    memset(slice->data + bytes, GUARD_BYTE, GUARD);
+}
+
+static void copy(struct lent *slice)
+{
+    memcpy(slice->copy, slice->data, slice->bytes);
+}
+
+static int changed(const struct lent *slice)
+{
+    return memcmp(slice->copy, slice->data, slice->bytes) != 0;
+}
+
+static uint64_t guards_broken(const struct lent *slice, enum fault fault)
+{
+    unsigned char guard[GUARD];
+
+    memset(guard, GUARD_BYTE, GUARD);
+    if (memcmp(slice->block, guard, GUARD) == 0 &&
+        memcmp(slice->data + slice->bytes, guard, GUARD) == 0)
+        return 0;
+    return UINT64_C(1) << fault;
+}
+
+/* What the library must not have written to. */
+static uint64_t faults(const struct call *call)
+{
+    uint64_t found = guards_broken(&words, BESIDE_WORDS) | guards_broken(&acts, BESIDE_ACTS) |
+                     guards_broken(&mem, BESIDE_MEM) | guards_broken(&fields, BESIDE_FIELDS) |
+                     guards_broken(&packed, BESIDE_PACKED) | guards_broken(&arg1, BESIDE_ARG1);
+    int writes_words = call->function == COMMAND || call->function == CONFIGURE ||
+                       call->function == INVALIDATE;
+
+    if (changed(&acts))
+        found |= UINT64_C(1) << INTO_ACTS;
+    if (!writes_words && changed(&words))
+        found |= UINT64_C(1) << INTO_WORDS;
+    if (call->function != COMMAND && range_count != 0)
+        found |= UINT64_C(1) << INTO_MEM;
+    if (call->function != UNPACK && changed(&fields))
+        found |= UINT64_C(1) << INTO_FIELDS;
+    return found;
+}
+
+/* Makes one call; arg1, fields and packed are already lent. */
+static uint32_t make(const struct call *c)
+{
+    uint64_t *w = (uint64_t *)words.data, *f = (uint64_t *)fields.data;
+    const uint16_t *a = (const uint16_t *)acts.data;
+    const uint64_t *n = c->numbers;
+
+    switch (c->function) {
+    case COMMAND:
+        return tcu_command(c->tiles, c->memory, w, c->words_len, a, c->acts_len, mem.data,
+                           c->mem_len, c->tile, n[0], c->endpoint, n[1], n[2], n[3],
+                           (uint64_t *)arg1.data);
+    case CONFIGURE:
+        return tcu_configure(c->tiles, c->memory, w, c->words_len, a, c->acts_len, mem.data,
+                             c->mem_len, c->tile, c->endpoint, n[0], n[1], n[2]);
+    case INVALIDATE:
+        return tcu_invalidate(c->tiles, c->memory, w, c->words_len, a, c->acts_len, mem.data,
+                              c->mem_len, c->tile, c->endpoint);
+    case WIRING:
+        return tcu_wiring(c->tiles, c->memory, w, c->words_len, a, c->acts_len, mem.data,
+                          c->mem_len);
+    case UNPACK:
+        return tcu_unpack(c->memory, n[0], n[1], n[2], f, c->fields_len);
+    case PACK:
+        return tcu_pack(c->memory, f, c->fields_len, (uint64_t *)packed.data, c->packed_len);
+    default:
+        fail("no such function");
+        return 0;
+    }
+}
+
+/* Reports the words that differ from the copy, or only counts them. */
+static uint64_t changed_words(int report)
+{
+    const uint64_t *now = (const uint64_t *)words.data;
+    const uint64_t *before = (const uint64_t *)words.copy;
+    uint64_t count = 0;
+
+    if (!changed(&words))
+        return 0;
+    for (size_t place = 0; place < words.bytes / sizeof *now; place++) {
+        if (now[place] == before[place])
+            continue;
+        count++;
+        if (report) {
+            put_number(place);
+            put_number(now[place]);
+        }
+    }
+    return count;
+}
+
+/* The first place from `place` on where the memory differs from its copy. */
+static size_t next_change(size_t place)
+{
+    while (place < mem.bytes) {
+        size_t left = mem.bytes - place, length = left < BLOCK ? left : BLOCK;
+
+        if (memcmp(mem.data + place, mem.copy + place, length) != 0)
+            break;
+        place += length;
+    }
+    while (place < mem.bytes && mem.data[place] == mem.copy[place])
+        place++;
+    return place;
+}
+
+static void note_range(size_t start, size_t end)
+{
+    if (range_count == range_room) {
+        range_room = 2 * range_room + 16;
+        ranges = realloc(ranges, range_room * sizeof *ranges);
+        if (ranges == NULL)
+            fail("no memory left");
+    }
+    ranges[range_count].start = start;
+    ranges[range_count].end = end;
+    range_count++;
+}
+
+/* Notes the ranges of bytes in which the memory differs from its copy. */
+static void find_ranges(void)
+{
+    size_t start = next_change(0);
+
+    range_count = 0;
+    while (start < mem.bytes) {
+        size_t end = start + 1, next = next_change(end);
+
+        /* Bytes that stay the same by chance do not end a range. */
+        while (next < mem.bytes && next - end < 16) {
+            end = next + 1;
+            next = next_change(end);
+        }
+        note_range(start, end);
+        start = next;
+    }
+}
+
+static void reply(uint32_t answer, const struct call *call)
+{
+    uint64_t after;
+
+    memcpy(&after, arg1.data, sizeof after);
+    put_number(answer);
+    put_number(call->function == COMMAND ? after : 0);
+    put_number(faults(call));
+    put_number(changed_words(0));
+    put_number(range_count);
+    changed_words(1);
+    for (size_t at = 0; at < range_count; at++) {
+        size_t start = ranges[at].start, length = ranges[at].end - start;
+
+        put_number(start);
+        put_number(length);
+        put(mem.data + start, length);
+        memcpy(mem.copy + start, mem.data + start, length);
+    }
+    put(fields.data, fields.bytes);
+    put(packed.data, packed.bytes);
+}
+
+/* Runs one call from the batch; gives back where the next one starts. */
+static const unsigned char *run(const unsigned char *at)
+{
+    struct call call;
+    uint32_t answer;
+
+    memcpy(&call, at, sizeof call);
+    at += sizeof call;
+    lend(&fields, call.fields_len * 8);
+    memcpy(fields.data, at, fields.bytes);
+    at += fields.bytes;
+    lend(&packed, call.packed_len * 8);
+    memcpy(packed.data, at, packed.bytes);
+    at += packed.bytes;
+    lend(&arg1, sizeof(uint64_t));
+    memcpy(arg1.data, &call.numbers[4], sizeof(uint64_t));
+    copy(&fields);
+    answer = make(&call);
+    find_ranges();
+    reply(answer, &call);
+    copy(&words);
+    return at;
+}
+
+/* Takes in a whole batch, then answers it. */
+static void batch(void)
+{
+    uint64_t sizes[5];
+    unsigned char *calls;
+    const unsigned char *at;
+
+    take(sizes, sizeof sizes);
+    lend(&words, sizes[0] * 8);
+    lend(&acts, sizes[1] * 2);
+    lend(&mem, sizes[2]);
+    calls = malloc(sizes[4] + 1);
+    if (calls == NULL)
+        fail("no memory left");
+    take(words.data, words.bytes);
+    take(acts.data, acts.bytes);
+    take(mem.data, mem.bytes);
+    take(calls, sizes[4]);
+    copy(&words);
+    copy(&acts);
+    copy(&mem);
+    at = calls;
+    for (uint64_t done = 0; done < sizes[3]; done++)
+        at = run(at);
+    free(calls);
+    if (fflush(stdout) != 0)
+        fail("cannot write");
+}
+
+int main(void)
+{
+    char mark[8];
+
+    _Static_assert(sizeof(struct call) == HEAD * sizeof(uint64_t), "a call's head");
+    while (fread(mark, sizeof mark, 1, stdin) == 1) {
+        if (memcmp(mark, "tcubatch", sizeof mark) != 0)
+            fail("no batch");
+        batch();
+    }
+    return 0;
+}

@@ -1,0 +1,100 @@
+//! Calls of the library as data: what the host lends, the numbers it passes, and
+//! what comes back. A call can be run by the model or sent to a runner.
+
+use crate::model::{self, Command, Machine};
+use crate::wrong::Wrong;
+
+/// What the host lends. A call may be given less of it than there is.
+#[derive(Clone, Debug, Default, PartialEq, Eq)]
+pub struct State {
+    pub words: Vec<u64>,
+    pub acts: Vec<u16>,
+    pub mem: Vec<u8>,
+}
+
+/// The sizes as a call states them: two numbers and three lengths of slices.
+#[derive(Clone, Copy, Debug, PartialEq, Eq)]
+pub struct Sizes {
+    pub tiles: u64,
+    pub memory: u64,
+    pub words_len: u64,
+    pub acts_len: u64,
+    pub mem_len: u64,
+}
+
+#[derive(Clone, Debug, PartialEq, Eq)]
+pub enum Action {
+    Command(Command),
+    Configure { tile: u64, endpoint: u64, words: [u64; 3] },
+    Invalidate { tile: u64, endpoint: u64 },
+    Wiring,
+    Unpack { words: [u64; 3], fields: Vec<u64> },
+    Pack { fields: Vec<u64>, words: Vec<u64> },
+}
+
+#[derive(Clone, Debug, PartialEq, Eq)]
+pub struct Call {
+    pub sizes: Sizes,
+    pub action: Action,
+}
+
+/// What a call gives back, besides what it did to the lent state. The lists are
+/// those lent to `tcu_unpack` and `tcu_pack`, as they are afterwards.
+#[derive(Clone, Debug, Default, PartialEq, Eq)]
+pub struct Outcome {
+    pub answer: u32,
+    pub arg1: u64,
+    pub fields: Vec<u64>,
+    pub packed: Vec<u64>,
+}
+
+impl State {
+    /// The part of the state that a call with these sizes is lent.
+    pub fn machine(&mut self, sizes: &Sizes, wrong: Wrong) -> Machine<'_> {
+        Machine {
+            tiles: sizes.tiles,
+            memory: sizes.memory,
+            words: &mut self.words[..sizes.words_len as usize],
+            acts: &self.acts[..sizes.acts_len as usize],
+            mem: &mut self.mem[..sizes.mem_len as usize],
+            wrong,
+        }
+    }
+}
+
+impl Call {
+    /// Runs the call on the model.
+    pub fn run(&self, state: &mut State, wrong: Wrong) -> Outcome {
+        let memory = self.sizes.memory;
+        match &self.action {
+            Action::Unpack { words, fields } => {
+                let mut fields = fields.clone();
+                let answer = model::unpack(memory, *words, &mut fields) as u32;
+                Outcome { answer, fields, ..Outcome::default() }
+            }
+            Action::Pack { fields, words } => {
+                let mut packed = words.clone();
+                let answer = model::pack(memory, fields, &mut packed) as u32;
+                Outcome { answer, fields: fields.clone(), packed, ..Outcome::default() }
+            }
+            on_machine => run_on_machine(on_machine, state.machine(&self.sizes, wrong)),
+        }
+    }
+}
+
+fn run_on_machine(action: &Action, mut machine: Machine) -> Outcome {
+    let mut arg1 = 0;
+    let answer = match action {
+        Action::Command(command) => {
+            let (answer, after) = machine.command(command);
+            arg1 = after;
+            answer as u32
+        }
+        Action::Configure { tile, endpoint, words } => {
+            machine.configure(*tile, *endpoint, *words) as u32
+        }
+        Action::Invalidate { tile, endpoint } => machine.invalidate(*tile, *endpoint) as u32,
+        _ => machine.wiring().map_or_else(|refusal| refusal as u32, u32::from),
+    };
+    Outcome { answer, arg1, ..Outcome::default() }
+}

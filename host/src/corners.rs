@@ -1,0 +1,645 @@
+//! The corners of the rules that a run must reach besides every answer: places
+//! where a wrong machine could give the right number for another reason, or the
+//! right number and a wrong end state.
+
+use crate::call::{Action, Call, Outcome, Sizes};
+use crate::model::WORDS_PER_TILE;
+use crate::model::{self, find_slot, opcode, Command, Endpoint, Memory, Receive, Send};
+use crate::model::{
+    ENDPOINTS, FIELDS, HEADER, MAX_MEMORY, MAX_TILES, NO_ENDPOINT, PAGE, UNLIMITED,
+};
+
+/// Every corner. `visit` names no other.
+pub const CORNERS: &[&str] = &[
+    "delivery: the search goes round",
+    "delivery: wpos is 2^slots",
+    "delivery: 32 slots",
+    "delivery: slot 31",
+    "delivery: the last free slot",
+    "delivery: largest message, 2016 bytes",
+    "delivery: empty payload",
+    "delivery: empty payload at address M",
+    "delivery: payload ends with the memory",
+    "delivery: to the own tile",
+    "delivery: payload overlaps its header's place",
+    "delivery: payload overlaps its own place",
+    "delivery: a full slot ends with the memory",
+    "SEND: unlimited credits",
+    "SEND: the last credit",
+    "SEND: 62 credits",
+    "SEND: replies to an endpoint of another activity",
+    "SEND: reply wanted, receiver has no range",
+    "SEND: reply endpoint over the sender",
+    "SEND: reply endpoint over the unlimited sender",
+    "SEND: reply endpoint over the receive endpoint",
+    "SEND: reply endpoint over a third endpoint in use",
+    "SEND: aims at the endpoint it names for replies",
+    "SEND: 3 for an arg0 that is right in its low 16 bits",
+    "REPLY: credit given",
+    "REPLY: credit makes 62 into 63",
+    "REPLY: credit above max_crd",
+    "REPLY: credit for an unlimited sender",
+    "REPLY: credit place is no send endpoint",
+    "REPLY: no credit place",
+    "REPLY: into its own endpoint",
+    "REPLY: credit for the reply endpoint itself",
+    "REPLY: slot still unread",
+    "REPLY: slot is free",
+    "REPLY: 8 before 4",
+    "REPLY: 17 before 4",
+    "REPLY: 17 from the receiver",
+    "message: 14 for an empty payload",
+    "message: 9 where DATA_SIZE + 32 passes 2^64",
+    "message: 9 where msg_sz is below 5",
+    "message: DATA_SIZE at the limit of msg_sz",
+    "FETCH: nothing unread",
+    "FETCH: the search goes round",
+    "FETCH: rpos is 2^slots",
+    "FETCH: slot 31",
+    "ACK_MSG: the slot is free",
+    "ACK_MSG: the slot is unread",
+    "ACK_MSG: clears its own endpoint",
+    "ACK_MSG: clears an endpoint in use",
+    "ACK_MSG: no reply range",
+    "ACK_MSG: 17 before 4",
+    "slot: 12 for the first offset past the slots",
+    "slot: last byte of the last slot",
+    "transfer: size 0 beyond the region",
+    "transfer: size 0 outside the memory",
+    "transfer: upwards over itself",
+    "transfer: downwards over itself",
+    "transfer: a whole page",
+    "transfer: up to the end of the region",
+    "transfer: 9 where DATA_SIZE + ARG_1 passes 2^64",
+    "transfer: 14 for the chip alone",
+    "transfer: 14 for the tile alone",
+    "transfer: 14 for the remote range alone",
+    "transfer: 14 where the remote sum passes 2^64",
+    "transfer: 14 for the local range alone",
+    "endpoint number right in its low bits only",
+    "opcode right in its low bits only",
+    "100: tiles 0",
+    "100: tiles above 8, other sizes to match",
+    "100: 192 * tiles wraps to the right length",
+    "100: M 0, other sizes to match",
+    "100: M no multiple of 4096",
+    "100: M above 65536, other sizes to match",
+    "100: M * tiles wraps to the right length",
+    "100: words too short",
+    "100: words too long",
+    "100: acts too short",
+    "100: acts too long",
+    "100: mem too short",
+    "100: mem too long",
+    "100: only the last endpoint of the last tile is bad",
+    "100: only the first endpoint is bad",
+    "words: type 4 to 7",
+    "words: INVALID with a bit set",
+    "words: unnamed bit in the first word of SEND",
+    "words: unnamed bit in the second word of SEND",
+    "words: unnamed bit in RECEIVE",
+    "words: unnamed bit in MEMORY",
+    "words: slots above 5",
+    "words: slot_size below 5",
+    "words: slot_size above 11",
+    "words: wpos above 2^slots",
+    "words: rpos above 2^slots",
+    "words: mask bit at 2^slots or above",
+    "words: unread and not occupied",
+    "words: buffer no multiple of 8",
+    "words: buffer past M",
+    "words: buffer end passes 2^64",
+    "pack: kind above 3",
+    "pack: a field too large",
+    "pack: an unused number is not zero",
+    "pack: a receive endpoint breaks a rule",
+    "pack: fields of another length",
+    "pack: words of another length",
+    "unpack: fields of another length",
+    "wiring: a reply endpoint",
+    "wiring: an occupied bit",
+    "wiring: a range past 64",
+    "wiring: a range over an endpoint in use",
+    "wiring: two ranges share an endpoint",
+    "wiring: cur_crd is not max_crd",
+    "wiring: aims at no receive endpoint",
+    "wiring: too much promised",
+];
+
+/// A call with the words it was lent and what came back.
+pub struct Seen<'a> {
+    pub call: &'a Call,
+    pub words: &'a [u64],
+    pub acts: &'a [u16],
+    pub outcome: &'a Outcome,
+}
+
+type Hit<'a> = &'a mut dyn FnMut(&'static str);
+
+/// Names each corner that the call has reached.
+pub fn visit(seen: &Seen, hit: Hit) {
+    match &seen.call.action {
+        Action::Unpack { words, fields } => {
+            hit_if(hit, fields.len() != FIELDS, "unpack: fields of another length");
+            visit_refused_words(seen, words, hit);
+        }
+        Action::Pack { fields, words } => visit_pack(seen, fields, words, hit),
+        _ if seen.outcome.answer == 100 => visit_bad_machine(seen, hit),
+        Action::Command(command) => visit_command(seen, command, hit),
+        Action::Configure { words, .. } => visit_refused_words(seen, words, hit),
+        Action::Wiring if seen.outcome.answer == 0 => visit_unsound(seen, hit),
+        _ => {}
+    }
+}
+
+fn hit_if(hit: Hit, reached: bool, corner: &'static str) {
+    if reached {
+        hit(corner);
+    }
+}
+
+impl Seen<'_> {
+    fn sizes(&self) -> &Sizes {
+        &self.call.sizes
+    }
+
+    fn endpoint(&self, tile: u64, id: u64) -> Endpoint {
+        if tile >= self.sizes().tiles || id >= ENDPOINTS {
+            return Endpoint::Invalid;
+        }
+        let at = (tile * WORDS_PER_TILE + id * 3) as usize;
+        Endpoint::read(&self.words[at..at + 3])
+    }
+
+    fn own(&self, tile: u64) -> u16 {
+        self.acts[tile as usize]
+    }
+
+    fn answer(&self) -> u32 {
+        self.outcome.answer
+    }
+}
+
+// ---------------------------------------------------------------- Commands
+
+fn visit_command(seen: &Seen, c: &Command, hit: Hit) {
+    let answer = seen.answer();
+    let low_id = seen.endpoint(c.tile, c.endpoint % 64);
+    let right_kind = match answer {
+        1 => low_id.memory().is_some(),
+        2 => low_id.send().is_some(),
+        3 => low_id.receive().is_some(),
+        _ => false,
+    };
+    let far = c.endpoint >= ENDPOINTS && answer != 101;
+    hit_if(hit, far && right_kind, "endpoint number right in its low bits only");
+    let low_opcode = answer == 15 && (1..7).contains(&(c.opcode % 256));
+    hit_if(hit, low_opcode, "opcode right in its low bits only");
+    match (c.opcode, seen.endpoint(c.tile, c.endpoint)) {
+        (opcode::SEND, Endpoint::Send(ep)) => visit_send(seen, c, &ep, hit),
+        (opcode::REPLY, Endpoint::Receive(ep)) => visit_reply(seen, c, &ep, hit),
+        (opcode::FETCH, Endpoint::Receive(ep)) => visit_fetch(seen, &ep, hit),
+        (opcode::ACK_MSG, Endpoint::Receive(ep)) => visit_acknowledge(seen, c, &ep, hit),
+        (opcode::READ, Endpoint::Memory(ep)) => visit_transfer(seen, c, &ep, hit),
+        (opcode::WRITE, Endpoint::Memory(ep)) => visit_transfer(seen, c, &ep, hit),
+        _ => {}
+    }
+}
+
+fn visit_send(seen: &Seen, c: &Command, ep: &Send, hit: Hit) {
+    visit_message(seen, c, ep, hit);
+    let low = c.arg0 % 65_536;
+    let low_is_right =
+        low == u64::from(NO_ENDPOINT) || seen.endpoint(c.tile, low).receive().is_some();
+    let cut = seen.answer() == 3 && c.arg0 >= 65_536 && low_is_right;
+    hit_if(hit, cut, "SEND: 3 for an arg0 that is right in its low 16 bits");
+    if seen.answer() != 0 {
+        return;
+    }
+    hit_if(hit, ep.cur_crd == UNLIMITED, "SEND: unlimited credits");
+    hit_if(hit, ep.cur_crd == 1, "SEND: the last credit");
+    hit_if(hit, ep.cur_crd == 62, "SEND: 62 credits");
+    let (tile, id) = (u64::from(ep.tgt_tile), u64::from(ep.tgt_ep));
+    let named = seen.endpoint(c.tile, c.arg0).receive();
+    if let (Some(named), Some(receiver)) = (named, seen.endpoint(tile, id).receive()) {
+        let foreign = named.act != seen.own(c.tile);
+        hit_if(hit, foreign, "SEND: replies to an endpoint of another activity");
+        let aims_there = (tile, id) == (c.tile, c.arg0);
+        hit_if(hit, aims_there, "SEND: aims at the endpoint it names for replies");
+        visit_reply_endpoint(seen, c, ep, &receiver, hit);
+    }
+}
+
+/// Where the reply endpoint of an accepted SEND was written.
+fn visit_reply_endpoint(seen: &Seen, c: &Command, ep: &Send, receiver: &Receive, hit: Hit) {
+    if !receiver.has_reply_range() {
+        hit("SEND: reply wanted, receiver has no range");
+        return;
+    }
+    let tile = u64::from(ep.tgt_tile);
+    let idx = find_slot(receiver.occupied, receiver.wpos, receiver.slots, false).unwrap_or(0);
+    let place = (tile, u64::from(receiver.rpl_eps) + idx);
+    if place == (c.tile, c.endpoint) {
+        hit(match ep.cur_crd {
+            UNLIMITED => "SEND: reply endpoint over the unlimited sender",
+            _ => "SEND: reply endpoint over the sender",
+        });
+    } else if place == (tile, u64::from(ep.tgt_ep)) {
+        hit("SEND: reply endpoint over the receive endpoint");
+    } else if seen.endpoint(place.0, place.1) != Endpoint::Invalid {
+        hit("SEND: reply endpoint over a third endpoint in use");
+    }
+}
+
+fn visit_reply(seen: &Seen, c: &Command, ep: &Receive, hit: Hit) {
+    let foreign = ep.act != seen.own(c.tile);
+    hit_if(hit, foreign && seen.answer() == 8, "REPLY: 8 before 4");
+    let own_range = ep.range_past_end();
+    hit_if(hit, foreign && own_range && seen.answer() == 17, "REPLY: 17 before 4");
+    hit_if(hit, !own_range && seen.answer() == 17, "REPLY: 17 from the receiver");
+    visit_slot(seen, c, ep, hit);
+    let idx = c.arg0 >> ep.slot_size;
+    if !ep.has_reply_range() || own_range || foreign || idx >= ep.count() {
+        return;
+    }
+    let reply_id = u64::from(ep.rpl_eps) + idx;
+    if let Endpoint::Send(sender) = seen.endpoint(c.tile, reply_id) {
+        visit_message(seen, c, &sender, hit);
+        if seen.answer() == 0 {
+            visit_accepted_reply(seen, c, ep, &sender, hit);
+            let own_credit = (u64::from(sender.tgt_tile), u64::from(sender.crd_ep));
+            let itself = own_credit == (c.tile, reply_id);
+            hit_if(hit, itself, "REPLY: credit for the reply endpoint itself");
+        }
+    }
+}
+
+fn visit_accepted_reply(seen: &Seen, c: &Command, ep: &Receive, sender: &Send, hit: Hit) {
+    let idx = c.arg0 >> ep.slot_size;
+    hit_if(hit, ep.unread >> idx & 1 == 1, "REPLY: slot still unread");
+    hit_if(hit, ep.occupied >> idx & 1 == 0, "REPLY: slot is free");
+    let target = (u64::from(sender.tgt_tile), u64::from(sender.tgt_ep));
+    hit_if(hit, target == (c.tile, c.endpoint), "REPLY: into its own endpoint");
+    if sender.crd_ep == NO_ENDPOINT {
+        hit("REPLY: no credit place");
+        return;
+    }
+    match seen.endpoint(sender.tgt_tile.into(), sender.crd_ep.into()) {
+        Endpoint::Send(credited) if credited.cur_crd == UNLIMITED => {
+            hit("REPLY: credit for an unlimited sender");
+        }
+        Endpoint::Send(credited) => {
+            hit("REPLY: credit given");
+            hit_if(hit, credited.cur_crd == 62, "REPLY: credit makes 62 into 63");
+            let above = credited.cur_crd >= credited.max_crd;
+            hit_if(hit, above, "REPLY: credit above max_crd");
+        }
+        _ => hit("REPLY: credit place is no send endpoint"),
+    }
+}
+
+/// What SEND and REPLY share: the size and the address, and the delivery.
+fn visit_message(seen: &Seen, c: &Command, ep: &Send, hit: Hit) {
+    let answer = seen.answer();
+    hit_if(hit, answer == 14 && c.data_size == 0, "message: 14 for an empty payload");
+    let passes = c.data_size.checked_add(HEADER).is_none();
+    hit_if(hit, answer == 9 && passes, "message: 9 where DATA_SIZE + 32 passes 2^64");
+    hit_if(hit, answer == 9 && ep.msg_sz < 5, "message: 9 where msg_sz is below 5");
+    if answer != 0 {
+        return;
+    }
+    let at_limit = c.data_size + HEADER == 1 << ep.msg_sz;
+    hit_if(hit, at_limit, "message: DATA_SIZE at the limit of msg_sz");
+    let target = seen.endpoint(ep.tgt_tile.into(), ep.tgt_ep.into());
+    if let Endpoint::Receive(receiver) = target {
+        visit_search(&receiver, hit);
+        visit_bytes(seen, c, u64::from(ep.tgt_tile), &receiver, hit);
+    }
+}
+
+fn visit_search(receiver: &Receive, hit: Hit) {
+    let (wpos, count) = (u64::from(receiver.wpos), receiver.count());
+    let idx = find_slot(receiver.occupied, receiver.wpos, receiver.slots, false).unwrap_or(0);
+    hit_if(hit, idx < wpos && wpos < count, "delivery: the search goes round");
+    hit_if(hit, wpos == count, "delivery: wpos is 2^slots");
+    hit_if(hit, count == 32, "delivery: 32 slots");
+    hit_if(hit, idx == 31, "delivery: slot 31");
+    let last_free = u64::from(receiver.occupied.count_ones()) + 1 == count;
+    hit_if(hit, last_free, "delivery: the last free slot");
+}
+
+fn visit_bytes(seen: &Seen, c: &Command, tile: u64, receiver: &Receive, hit: Hit) {
+    let memory = seen.sizes().memory;
+    let idx = find_slot(receiver.occupied, receiver.wpos, receiver.slots, false).unwrap_or(0);
+    let slot = receiver.buffer + (idx << receiver.slot_size);
+    let payload = slot + HEADER;
+    let (from, size) = (c.data_addr, c.data_size);
+    hit_if(hit, size == 2016, "delivery: largest message, 2016 bytes");
+    hit_if(hit, size == 0, "delivery: empty payload");
+    hit_if(hit, size == 0 && from == memory, "delivery: empty payload at address M");
+    hit_if(hit, size != 0 && from + size == memory, "delivery: payload ends with the memory");
+    let ends_memory = payload + size == memory && HEADER + size == receiver.slot_bytes();
+    hit_if(hit, ends_memory, "delivery: a full slot ends with the memory");
+    if tile == c.tile {
+        hit("delivery: to the own tile");
+        let over_header = from < payload && slot < from + size;
+        hit_if(hit, over_header && size != 0, "delivery: payload overlaps its header's place");
+        let over_itself = from < payload + size && payload < from + size && from != payload;
+        hit_if(hit, over_itself, "delivery: payload overlaps its own place");
+    }
+}
+
+fn visit_fetch(seen: &Seen, ep: &Receive, hit: Hit) {
+    if seen.answer() != 0 {
+        return;
+    }
+    let (rpos, count) = (u64::from(ep.rpos), ep.count());
+    match find_slot(ep.unread, ep.rpos, ep.slots, true) {
+        None => hit("FETCH: nothing unread"),
+        Some(idx) => {
+            hit_if(hit, idx < rpos && rpos < count, "FETCH: the search goes round");
+            hit_if(hit, rpos == count, "FETCH: rpos is 2^slots");
+            hit_if(hit, idx == 31, "FETCH: slot 31");
+        }
+    }
+}
+
+/// How REPLY and ACK_MSG name a slot.
+fn visit_slot(seen: &Seen, c: &Command, ep: &Receive, hit: Hit) {
+    let end = ep.count() << ep.slot_size;
+    let first_past = seen.answer() == 12 && c.arg0 == end;
+    hit_if(hit, first_past, "slot: 12 for the first offset past the slots");
+    let last_inside = seen.answer() == 0 && c.arg0 == end - 1;
+    hit_if(hit, last_inside, "slot: last byte of the last slot");
+}
+
+fn visit_acknowledge(seen: &Seen, c: &Command, ep: &Receive, hit: Hit) {
+    let foreign = ep.act != seen.own(c.tile);
+    hit_if(hit, foreign && seen.answer() == 17, "ACK_MSG: 17 before 4");
+    visit_slot(seen, c, ep, hit);
+    if seen.answer() != 0 {
+        return;
+    }
+    let idx = c.arg0 >> ep.slot_size;
+    hit_if(hit, ep.occupied >> idx & 1 == 0, "ACK_MSG: the slot is free");
+    hit_if(hit, ep.unread >> idx & 1 == 1, "ACK_MSG: the slot is unread");
+    if !ep.has_reply_range() {
+        hit("ACK_MSG: no reply range");
+        return;
+    }
+    let reply_id = u64::from(ep.rpl_eps) + idx;
+    if reply_id == c.endpoint {
+        hit("ACK_MSG: clears its own endpoint");
+    } else if seen.endpoint(c.tile, reply_id) != Endpoint::Invalid {
+        hit("ACK_MSG: clears an endpoint in use");
+    }
+}
+
+fn visit_transfer(seen: &Seen, c: &Command, ep: &Memory, hit: Hit) {
+    let end = u128::from(c.data_size) + u128::from(c.arg1);
+    let passes = end >> 64 != 0 && c.data_size.wrapping_add(c.arg1) <= ep.size;
+    let refused = seen.answer() == 9;
+    hit_if(hit, refused && passes, "transfer: 9 where DATA_SIZE + ARG_1 passes 2^64");
+    match seen.answer() {
+        0 if c.data_size == 0 => {
+            hit_if(hit, c.arg1 > ep.size, "transfer: size 0 beyond the region");
+            let outside = c.data_addr > seen.sizes().memory;
+            hit_if(hit, outside, "transfer: size 0 outside the memory");
+        }
+        0 => visit_copied(c, ep, hit),
+        14 => visit_aborted(seen, c, ep, hit),
+        _ => {}
+    }
+}
+
+fn visit_copied(c: &Command, ep: &Memory, hit: Hit) {
+    let (from, to) = match c.opcode {
+        opcode::READ => (ep.addr + c.arg1, c.data_addr),
+        _ => (c.data_addr, ep.addr + c.arg1),
+    };
+    let one_tile = u64::from(ep.tile) == c.tile;
+    let upwards = from < to && to < from + c.data_size;
+    let downwards = to < from && from < to + c.data_size;
+    hit_if(hit, one_tile && upwards, "transfer: upwards over itself");
+    hit_if(hit, one_tile && downwards, "transfer: downwards over itself");
+    hit_if(hit, c.data_size == PAGE, "transfer: a whole page");
+    let to_the_end = c.data_size + c.arg1 == ep.size;
+    hit_if(hit, to_the_end, "transfer: up to the end of the region");
+}
+
+fn visit_aborted(seen: &Seen, c: &Command, ep: &Memory, hit: Hit) {
+    let memory = u128::from(seen.sizes().memory);
+    let size = u128::from(c.data_size);
+    let remote_end = u128::from(ep.addr) + u128::from(c.arg1) + size;
+    let reasons = [
+        (ep.chip != 0, "transfer: 14 for the chip alone"),
+        (u64::from(ep.tile) >= seen.sizes().tiles, "transfer: 14 for the tile alone"),
+        (remote_end > memory, "transfer: 14 for the remote range alone"),
+        (u128::from(c.data_addr) + size > memory, "transfer: 14 for the local range alone"),
+    ];
+    hit_single(&reasons, hit);
+    let passes = remote_end >> 64 != 0 && remote_end - (1 << 64) <= memory;
+    hit_if(hit, passes, "transfer: 14 where the remote sum passes 2^64");
+}
+
+/// Names the one reason that holds, if only one does.
+fn hit_single(reasons: &[(bool, &'static str)], hit: Hit) {
+    let mut holding = reasons.iter().filter(|(holds, _)| *holds);
+    if let (Some((_, reason)), None) = (holding.next(), holding.next()) {
+        hit(reason);
+    }
+}
+
+// ---------------------------------------------------------------- Host refusals
+
+fn visit_bad_machine(seen: &Seen, hit: Hit) {
+    let s = seen.sizes();
+    let words = u128::from(s.tiles) * 192;
+    let bytes = u128::from(s.tiles) * u128::from(s.memory);
+    let words_match = u128::from(s.words_len) == words && s.acts_len == s.tiles;
+    let match_all = words_match && u128::from(s.mem_len) == bytes;
+    let tiles_hold = (1..=MAX_TILES).contains(&s.tiles);
+    let memory_holds = model::memory_allowed(s.memory);
+    let wrapped_words = words >> 64 != 0 && words as u64 == s.words_len;
+    let wrapped_bytes = bytes >> 64 != 0 && bytes as u64 == s.mem_len;
+    hit_if(hit, s.tiles == 0, "100: tiles 0");
+    hit_if(hit, match_all && s.tiles > MAX_TILES, "100: tiles above 8, other sizes to match");
+    hit_if(hit, wrapped_words, "100: 192 * tiles wraps to the right length");
+    hit_if(hit, match_all && tiles_hold && s.memory == 0, "100: M 0, other sizes to match");
+    let no_multiple = match_all && tiles_hold && s.memory % PAGE != 0;
+    hit_if(hit, no_multiple, "100: M no multiple of 4096");
+    let too_large = match_all && tiles_hold && s.memory > MAX_MEMORY;
+    hit_if(hit, too_large, "100: M above 65536, other sizes to match");
+    hit_if(hit, tiles_hold && wrapped_bytes, "100: M * tiles wraps to the right length");
+    if tiles_hold && memory_holds {
+        visit_lengths(s, hit);
+        if match_all {
+            visit_bad_table(seen, hit);
+        }
+    }
+}
+
+fn visit_lengths(s: &Sizes, hit: Hit) {
+    let (words, acts, mem) = (WORDS_PER_TILE * s.tiles, s.tiles, s.memory * s.tiles);
+    hit_single(
+        &[
+            (s.words_len < words, "100: words too short"),
+            (s.words_len > words, "100: words too long"),
+            (s.acts_len < acts, "100: acts too short"),
+            (s.acts_len > acts, "100: acts too long"),
+            (s.mem_len < mem, "100: mem too short"),
+            (s.mem_len > mem, "100: mem too long"),
+        ],
+        hit,
+    );
+}
+
+fn visit_bad_table(seen: &Seen, hit: Hit) {
+    let s = seen.sizes();
+    let table = seen.words[..s.words_len as usize].chunks_exact(3);
+    let faulty = |words: &&[u64]| !word_faults(words, s.memory).is_empty();
+    let bad: Vec<usize> =
+        table.enumerate().filter(|(_, words)| faulty(words)).map(|(place, _)| place).collect();
+    let last = (s.tiles * ENDPOINTS - 1) as usize;
+    hit_if(hit, bad == [last], "100: only the last endpoint of the last tile is bad");
+    hit_if(hit, bad == [0], "100: only the first endpoint is bad");
+}
+
+/// What is wrong with three words: a second test, apart from the model's.
+pub fn word_faults(words: &[u64], memory: u64) -> Vec<&'static str> {
+    let (first, second, third) = (words[0], words[1], words[2]);
+    let unnamed_in_memory = first & (0x3 << 21) != 0 || first >> 37 != 0;
+    let faults: Vec<(bool, &'static str)> = match first % 8 {
+        0 => vec![(first != 0 || second != 0 || third != 0, "words: INVALID with a bit set")],
+        1 => vec![
+            (first >> 54 != 0, "words: unnamed bit in the first word of SEND"),
+            (second >> 30 != 0, "words: unnamed bit in the second word of SEND"),
+        ],
+        2 => receive_faults(words, memory),
+        3 => vec![(unnamed_in_memory, "words: unnamed bit in MEMORY")],
+        _ => vec![(true, "words: type 4 to 7")],
+    };
+    let holding = faults.into_iter().filter(|(holds, _)| *holds);
+    holding.map(|(_, fault)| fault).collect()
+}
+
+fn receive_faults(words: &[u64], memory: u64) -> Vec<(bool, &'static str)> {
+    let field = |low: u32| words[0] >> low & 63;
+    let (slots, slot_size, wpos, rpos) = (field(35), field(41), field(47), field(53));
+    let count = 1u128 << slots;
+    let (occupied, unread) = (words[2] & 0xFFFF_FFFF, words[2] >> 32);
+    let masks = u128::from(occupied | unread);
+    let end = u128::from(words[1]) + (1u128 << (slots + slot_size).min(100));
+    let passes = end >> 64 != 0 && end - (1 << 64) <= u128::from(memory);
+    vec![
+        (words[0] >> 59 != 0, "words: unnamed bit in RECEIVE"),
+        (slots > 5, "words: slots above 5"),
+        (slot_size < 5, "words: slot_size below 5"),
+        (slot_size > 11, "words: slot_size above 11"),
+        (u128::from(wpos) > count, "words: wpos above 2^slots"),
+        (u128::from(rpos) > count, "words: rpos above 2^slots"),
+        (slots <= 5 && masks >> count != 0, "words: mask bit at 2^slots or above"),
+        (unread & !occupied != 0, "words: unread and not occupied"),
+        (words[1] % 8 != 0, "words: buffer no multiple of 8"),
+        (passes, "words: buffer end passes 2^64"),
+        (!passes && end > u128::from(memory), "words: buffer past M"),
+    ]
+}
+
+/// Words that are refused for one fault; also holds the model against the
+/// second test of the words above.
+fn visit_refused_words(seen: &Seen, words: &[u64; 3], hit: Hit) {
+    let faults = word_faults(words, seen.sizes().memory);
+    match (seen.answer(), &faults[..]) {
+        (103, [fault]) => hit(fault),
+        (103, []) | (0, [_, ..]) => hit("the two tests of the words do not agree"),
+        _ => {}
+    }
+}
+
+fn visit_pack(seen: &Seen, fields: &[u64], words: &[u64], hit: Hit) {
+    hit_if(hit, fields.len() != FIELDS, "pack: fields of another length");
+    hit_if(hit, words.len() != 3, "pack: words of another length");
+    if seen.answer() != 103 {
+        return;
+    }
+    let widths: &[u32] = match fields[0] {
+        0 => &[],
+        1 => &[16, 6, 6, 6, 16, 1, 16, 8, 6, 64],
+        2 => &[16, 16, 6, 6, 6, 6, 64, 32, 32],
+        3 => &[16, 2, 8, 6, 64, 64],
+        _ => {
+            hit("pack: kind above 3");
+            return;
+        }
+    };
+    let (used, unused) = fields[1..].split_at(widths.len());
+    let too_large =
+        used.iter().zip(widths).any(|(field, width)| *width < 64 && field >> width != 0);
+    let stray = unused.iter().any(|number| *number != 0);
+    hit_if(hit, too_large && !stray, "pack: a field too large");
+    hit_if(hit, stray && !too_large, "pack: an unused number is not zero");
+    let rule = fields[0] == 2 && !too_large && !stray;
+    hit_if(hit, rule, "pack: a receive endpoint breaks a rule");
+}
+
+// ---------------------------------------------------------------- Wiring
+
+/// The one rule that an unsound wiring breaks, by a test apart from the model's. No
+/// table breaks only the rule that credits are at most 62: a receive endpoint
+/// has at most 32 slots, so such a sender also promises too much.
+fn visit_unsound(seen: &Seen, hit: Hit) {
+    let mut senders = Vec::new();
+    let mut receivers = Vec::new();
+    for tile in 0..seen.sizes().tiles {
+        for id in 0..ENDPOINTS {
+            match seen.endpoint(tile, id) {
+                Endpoint::Send(ep) => senders.push(ep),
+                Endpoint::Receive(ep) => receivers.push((tile, id, ep)),
+                _ => {}
+            }
+        }
+    }
+    let aims = |ep: &Send, tile: u64, id: u64| {
+        ep.tgt_chip == 0 && (u64::from(ep.tgt_tile), u64::from(ep.tgt_ep)) == (tile, id)
+    };
+    let lost = |ep: &Send| !receivers.iter().any(|(tile, id, _)| aims(ep, *tile, *id));
+    let overfull = |(tile, id, ep): &(u64, u64, Receive)| {
+        let aimed = senders.iter().filter(|sender| aims(sender, *tile, *id));
+        aimed.map(|sender| u64::from(sender.max_crd)).sum::<u64>() > ep.count()
+    };
+    let past = receivers.iter().any(|(_, _, ep)| ep.range_past_end());
+    hit_single(
+        &[
+            (senders.iter().any(|ep| ep.reply), "wiring: a reply endpoint"),
+            (receivers.iter().any(|(_, _, ep)| ep.occupied != 0), "wiring: an occupied bit"),
+            (past, "wiring: a range past 64"),
+            (range_in_use(seen, &receivers), "wiring: a range over an endpoint in use"),
+            (ranges_share(&receivers), "wiring: two ranges share an endpoint"),
+            (senders.iter().any(|ep| ep.cur_crd != ep.max_crd), "wiring: cur_crd is not max_crd"),
+            (senders.iter().any(lost), "wiring: aims at no receive endpoint"),
+            (receivers.iter().any(overfull), "wiring: too much promised"),
+        ],
+        hit,
+    );
+}
+
+fn range_in_use(seen: &Seen, receivers: &[(u64, u64, Receive)]) -> bool {
+    receivers.iter().filter(|(_, _, ep)| ep.has_reply_range()).any(|(tile, _, ep)| {
+        let start = u64::from(ep.rpl_eps);
+        (start..start + ep.count()).any(|id| seen.endpoint(*tile, id) != Endpoint::Invalid)
+    })
+}
+
+fn ranges_share(receivers: &[(u64, u64, Receive)]) -> bool {
+    let ranges = receivers.iter().filter(|(_, _, ep)| ep.has_reply_range());
+    let ranges: Vec<(u64, u64, u64, u64)> = ranges
+        .map(|(tile, id, ep)| {
+            (*tile, *id, u64::from(ep.rpl_eps), u64::from(ep.rpl_eps) + ep.count())
+        })
+        .collect();
+    ranges.iter().any(|(tile, id, start, end)| {
+        let apart = |other: &&(u64, u64, u64, u64)| other.0 == *tile && other.1 != *id;
+        ranges.iter().filter(apart).any(|other| other.2 < *end && *start < other.3)
+    })
+}

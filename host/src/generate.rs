@@ -1,0 +1,521 @@
+//! Random sessions: a machine and some tens of calls on it, one after the other.
+//! The generator follows the session on the model, so that it can name slots
+//! that hold messages, endpoints that have credits, and sizes at their limits.
+
+use crate::call::{Action, Call, Sizes, State};
+use crate::machines::{self, Place, World};
+use crate::model::{opcode, Command, Endpoint, Memory, Receive, ENDPOINTS, FIELDS, HEADER};
+use crate::model::{MAX_MEMORY, NO_ENDPOINT, PAGE, WORDS_PER_TILE};
+use crate::random::Random;
+use crate::wrong::Wrong;
+
+/// A machine as it is at first, and the calls to make on it in turn.
+pub struct Session {
+    pub number: u64,
+    pub state: State,
+    pub calls: Vec<Call>,
+}
+
+/// The session with a number; it depends on the seed and the number alone.
+pub fn session(seed: u64, number: u64) -> Session {
+    let mut random = Random::new(seed, number);
+    let plan = machines::any_plan(&mut random);
+    let world = plan.world;
+    let mut state = world.state.clone();
+    let mut calls = Vec::with_capacity(plan.calls as usize);
+    if plan.wiring_first {
+        calls.push(Call { sizes: world.sizes(), action: Action::Wiring });
+    }
+    for _ in 0..plan.calls {
+        let call = Scene::new(&mut random, &world, &state).call();
+        call.run(&mut state, Wrong::Nothing);
+        calls.push(call);
+    }
+    Session { number, state: world.state, calls }
+}
+
+/// A machine in its present state, from which the next call is chosen.
+struct Scene<'a> {
+    random: &'a mut Random,
+    world: &'a World,
+    table: Vec<Endpoint>,
+}
+
+/// A slot of a receive endpoint.
+type Slot = (Place, Receive, u64);
+
+impl<'a> Scene<'a> {
+    fn new(random: &'a mut Random, world: &'a World, state: &State) -> Scene<'a> {
+        let places = (0..world.tiles).flat_map(|tile| (0..ENDPOINTS).map(move |id| (tile, id)));
+        let table = places.map(|place| world.endpoint(state, place)).collect();
+        Scene { random, world, table }
+    }
+
+    /// The endpoints of the table in order, each with its place.
+    fn placed(&self) -> impl Iterator<Item = (Place, &Endpoint)> {
+        let numbered = (0..).zip(&self.table);
+        numbered.map(|(at, endpoint): (u64, _)| ((at / ENDPOINTS, at % ENDPOINTS), endpoint))
+    }
+
+    fn call(&mut self) -> Call {
+        let action = match self.random.weighted(&[74, 7, 3, 6, 5, 5]) {
+            0 => Action::Command(self.command()),
+            1 => self.configure(),
+            2 => Action::Invalidate { tile: self.tile(), endpoint: self.any_id() },
+            3 => Action::Wiring,
+            4 => self.unpack(),
+            _ => self.pack(),
+        };
+        Call { sizes: self.sizes(), action }
+    }
+
+    // ------------------------------------------------------------ Sizes
+
+    /// The machine's own sizes, or now and then others.
+    fn sizes(&mut self) -> Sizes {
+        let right = self.world.sizes();
+        match self.random.weighted(&[96, 1, 1, 1, 1]) {
+            0 => right,
+            1 => Sizes { tiles: self.odd_tiles(), ..right },
+            2 => Sizes { memory: self.odd_memory(), ..right },
+            3 => self.odd_length(right),
+            _ => self.resized(right),
+        }
+    }
+
+    /// Among them numbers whose products with 192 wrap to the right length.
+    fn odd_tiles(&mut self) -> u64 {
+        let tiles = self.world.tiles;
+        let others = [0, 9, tiles - 1, tiles + 1, tiles + (1 << 58), tiles + (1 << 32), u64::MAX];
+        self.random.pick(&others)
+    }
+
+    /// Among them numbers whose products with the tiles wrap to the right length.
+    fn odd_memory(&mut self) -> u64 {
+        let memory = self.world.memory;
+        let near = [0, 2048, memory - 1, memory + 1, memory + 2048, memory - PAGE];
+        let far = [memory + (1 << 63), memory + (1 << 61), memory + (1 << 32), MAX_MEMORY + PAGE];
+        if self.random.chance(50) {
+            self.random.pick(&near)
+        } else {
+            self.random.pick(&far)
+        }
+    }
+
+    /// One slice shorter, or longer where there is more to lend.
+    fn odd_length(&mut self, right: Sizes) -> Sizes {
+        let state = &self.world.state;
+        let (words, acts) = (state.words.len() as u64, state.acts.len() as u64);
+        match self.random.below(3) {
+            0 => Sizes {
+                words_len: self.other_length(right.words_len, words, WORDS_PER_TILE),
+                ..right
+            },
+            1 => Sizes { acts_len: self.other_length(right.acts_len, acts, 1), ..right },
+            _ => {
+                let mem = state.mem.len() as u64;
+                Sizes { mem_len: self.other_length(right.mem_len, mem, PAGE), ..right }
+            }
+        }
+    }
+
+    fn other_length(&mut self, right: u64, most: u64, step: u64) -> u64 {
+        let longer = self.random.pick(&[right + 1, right + step, most]);
+        if most > right && self.random.chance(60) {
+            return longer.min(most);
+        }
+        let part = self.random.below(right);
+        self.random.pick(&[0, right - 1, right - step, part])
+    }
+
+    /// Other sizes that agree with each other, where there is enough to lend;
+    /// these may be allowed sizes too, over the first part of the state.
+    fn resized(&mut self, right: Sizes) -> Sizes {
+        let half = PAGE / 2;
+        let large = MAX_MEMORY + PAGE;
+        let enough_for_large = self.world.state.mem.len() as u64 >= large;
+        let memories = [0, half, PAGE, PAGE + half, right.memory, right.memory, right.memory];
+        let (tiles, memory) = if enough_for_large && self.random.chance(30) {
+            (1, large)
+        } else {
+            let tiles = [0, 1, right.tiles, right.tiles + 1, 9, 9];
+            (self.random.pick(&tiles), self.random.pick(&memories))
+        };
+        let sizes = Sizes {
+            tiles,
+            memory,
+            words_len: WORDS_PER_TILE * tiles,
+            acts_len: tiles,
+            mem_len: memory * tiles,
+        };
+        let state = &self.world.state;
+        let fits = sizes.words_len <= state.words.len() as u64
+            && sizes.acts_len <= state.acts.len() as u64
+            && sizes.mem_len <= state.mem.len() as u64;
+        if fits {
+            sizes
+        } else {
+            right
+        }
+    }
+
+    // ------------------------------------------------------------ Places
+
+    fn tile(&mut self) -> u64 {
+        if self.random.chance(97) {
+            return self.random.below(self.world.tiles);
+        }
+        self.odd_tile()
+    }
+
+    fn odd_tile(&mut self) -> u64 {
+        let tiles = self.world.tiles;
+        self.random.pick(&[tiles, tiles + 1, 8, 255, 256, 1 << 32, u64::MAX])
+    }
+
+    fn any_id(&mut self) -> u64 {
+        if self.random.chance(94) {
+            return self.random.below(ENDPOINTS);
+        }
+        let low = self.random.below(ENDPOINTS);
+        self.random.pick(&[64, 65, 256 + low, 65_535, 65_536 + low, (1 << 32) + low, u64::MAX])
+    }
+
+    /// An endpoint that `wanted` chooses, mostly; where there is none, one that
+    /// `possible` chooses; otherwise any place.
+    fn actor(
+        &mut self,
+        wanted: impl Fn(&Endpoint) -> bool,
+        possible: impl Fn(&Endpoint) -> bool,
+    ) -> Place {
+        let some = |scene: &Scene, test: &dyn Fn(&Endpoint) -> bool| -> Vec<Place> {
+            scene.placed().filter(|(_, ep)| test(ep)).map(|(place, _)| place).collect()
+        };
+        let mut chosen = some(self, &wanted);
+        if chosen.is_empty() {
+            chosen = some(self, &possible);
+        }
+        if chosen.is_empty() || self.random.chance(4) {
+            let tile = self.tile();
+            return (tile, self.any_id());
+        }
+        let (tile, id) = self.random.pick(&chosen);
+        match self.random.below(200) {
+            0 => (self.odd_tile(), id),
+            1 => (tile, id + self.random.pick(&[64, 256, 65_536, 1 << 32])),
+            _ => (tile, id),
+        }
+    }
+
+    fn endpoint(&self, (tile, id): Place) -> Endpoint {
+        if tile >= self.world.tiles || id >= ENDPOINTS {
+            return Endpoint::Invalid;
+        }
+        self.table[(tile * ENDPOINTS + id) as usize]
+    }
+
+    /// The slots, of all receive endpoints, that `wanted` chooses.
+    fn slots(&self, wanted: impl Fn(&Scene, Place, &Receive, u64) -> bool) -> Vec<Slot> {
+        let mut found = Vec::new();
+        for (place, endpoint) in self.placed() {
+            if let Endpoint::Receive(ep) = *endpoint {
+                let all = (0..ep.count()).filter(|idx| wanted(self, place, &ep, *idx));
+                found.extend(all.map(|idx| (place, ep, idx)));
+            }
+        }
+        found
+    }
+
+    // ------------------------------------------------------------ Commands
+
+    fn command(&mut self) -> Command {
+        match self.random.weighted(&[31, 23, 9, 9, 15, 10, 2, 1]) {
+            0 => self.send(),
+            1 => self.reply(),
+            2 => self.transfer(opcode::READ),
+            3 => self.transfer(opcode::WRITE),
+            4 => self.fetch(),
+            5 => self.acknowledge(),
+            6 => self.plain(opcode::IDLE),
+            _ => {
+                let unknown = [7, 8, 255, 256 + 1, 65_536 + 5, (1 << 32) + 1, u64::MAX];
+                let opcode = self.random.pick(&unknown);
+                self.plain(opcode)
+            }
+        }
+    }
+
+    /// A command with no thought about its numbers.
+    fn plain(&mut self, opcode: u64) -> Command {
+        Command {
+            tile: self.tile(),
+            opcode,
+            endpoint: self.any_id(),
+            arg0: self.any_number(),
+            data_addr: self.any_number(),
+            data_size: self.any_number(),
+            arg1: self.any_number(),
+        }
+    }
+
+    fn any_number(&mut self) -> u64 {
+        let random = self.random.number();
+        self.random.pick(&[0, 16, random % 5000, random, 1 << 63, u64::MAX])
+    }
+
+    fn send(&mut self) -> Command {
+        let ready = self.random.chance(85);
+        let (tile, endpoint) = self.actor(
+            |ep| match ep {
+                Endpoint::Send(ep) => !ready || (!ep.reply && ep.cur_crd != 0),
+                _ => false,
+            },
+            |ep| ep.send().is_some(),
+        );
+        let msg_sz = match self.endpoint((tile, endpoint)) {
+            Endpoint::Send(ep) => ep.msg_sz,
+            _ => 6,
+        };
+        let (data_addr, data_size) = self.message(msg_sz);
+        let arg0 = self.reply_place(tile);
+        let arg1 = self.any_number();
+        Command { tile, opcode: opcode::SEND, endpoint, arg0, data_addr, data_size, arg1 }
+    }
+
+    /// The arg0 of a SEND: no endpoint, a receive endpoint, or something else.
+    fn reply_place(&mut self, tile: u64) -> u64 {
+        let receivers: Vec<u64> =
+            (0..ENDPOINTS).filter(|id| self.endpoint((tile, *id)).receive().is_some()).collect();
+        match self.random.below(50) {
+            0..=11 => u64::from(NO_ENDPOINT),
+            12 => self.any_id(),
+            13 if !receivers.is_empty() => {
+                let far = self.random.pick(&[64, 256, 65_536, 1 << 32, 1 << 63]);
+                self.random.pick(&receivers) + far
+            }
+            14 => self.random.pick(&[(1 << 32) + 65_535, 65_534, 131_071]),
+            _ if receivers.is_empty() => u64::from(NO_ENDPOINT),
+            _ => self.random.pick(&receivers),
+        }
+    }
+
+    /// DATA_ADDR and DATA_SIZE of a message through an endpoint with `msg_sz`.
+    fn message(&mut self, msg_sz: u8) -> (u64, u64) {
+        let most = (1 << msg_sz.min(11)) - HEADER.min(1 << msg_sz.min(11));
+        let size = match self.random.weighted(&[54, 18, 10, 12, 3, 3]) {
+            0 => self.random.between(0, most.min(96)),
+            1 => most,
+            2 => self.random.between(0, most),
+            3 => 0,
+            4 => most + 1,
+            _ => self.random.pick(&[PAGE, 2017, u64::MAX, u64::MAX - 31, u64::MAX - 32, 1 << 63]),
+        };
+        let memory = self.world.memory;
+        let page = self.random.below(memory / PAGE) * PAGE;
+        let at_page_end = page + PAGE - size.min(PAGE);
+        let random = self.random.number();
+        let addr = match self.random.weighted(&[62, 16, 8, 3, 6, 3, 2]) {
+            0 => page + self.random.between(0, (PAGE - size.min(PAGE)) / 16) * 16,
+            1 => at_page_end / 16 * 16,
+            2 => (at_page_end + 15) / 16 * 16,
+            3 => self.random.below(memory),
+            4 => self.random.pick(&[memory, memory + 16, memory + PAGE, memory + PAGE - 16]),
+            5 => random / 16 * 16,
+            _ => self.random.pick(&[u64::MAX - 15, u64::MAX, 1 << 63, 1 << 32]),
+        };
+        (addr, size)
+    }
+
+    fn reply(&mut self) -> Command {
+        let answerable = self.slots(|scene, (tile, _), ep, idx| {
+            let id = u64::from(ep.rpl_eps) + idx;
+            !ep.range_past_end() && scene.endpoint((tile, id)).send().is_some()
+        });
+        if answerable.is_empty() && self.random.chance(60) {
+            return self.send();
+        }
+        let (tile, endpoint, arg0) = self.slot(answerable, 90);
+        let ep = self.endpoint((tile, endpoint)).receive();
+        let reply_ep = ep.map(|ep| (tile, u64::from(ep.rpl_eps) + (arg0 >> ep.slot_size)));
+        let msg_sz = match reply_ep.map(|place| self.endpoint(place)) {
+            Some(Endpoint::Send(ep)) => ep.msg_sz,
+            _ => 6,
+        };
+        let (data_addr, data_size) = self.message(msg_sz);
+        let arg1 = self.any_number();
+        Command { tile, opcode: opcode::REPLY, endpoint, arg0, data_addr, data_size, arg1 }
+    }
+
+    fn acknowledge(&mut self) -> Command {
+        let occupied = self.slots(|_, _, ep, idx| ep.occupied >> idx & 1 == 1);
+        let (tile, endpoint, arg0) = self.slot(occupied, 70);
+        let plain = self.plain(opcode::ACK_MSG);
+        Command { tile, endpoint, arg0, ..plain }
+    }
+
+    /// One of the given slots, or any slot, or one that does not exist: tile,
+    /// endpoint and an arg0 that names the slot.
+    fn slot(&mut self, given: Vec<Slot>, percent: u64) -> (u64, u64, u64) {
+        if !given.is_empty() && self.random.chance(percent) {
+            let ((tile, id), ep, idx) = self.random.pick(&given);
+            let inside = self.random.pick(&[0, 0, 0, 1, ep.slot_bytes() - 1]);
+            return (tile, id, (idx << ep.slot_size) + inside);
+        }
+        let is_receive = |endpoint: &Endpoint| endpoint.receive().is_some();
+        let (tile, id) = self.actor(is_receive, is_receive);
+        let ep = match self.endpoint((tile, id)) {
+            Endpoint::Receive(ep) => ep,
+            _ => return (tile, id, self.any_number()),
+        };
+        let end = ep.count() << ep.slot_size;
+        let inside = self.random.below(end);
+        let wrapping = (1 << 32 << ep.slot_size) + inside;
+        let any = self.any_number();
+        let arg0 = self.random.pick(&[inside, inside, inside, end - 1, end, wrapping, any]);
+        (tile, id, arg0)
+    }
+
+    fn fetch(&mut self) -> Command {
+        let unread = self.random.chance(80);
+        let (tile, endpoint) = self.actor(
+            |ep| match ep {
+                Endpoint::Receive(ep) => !unread || ep.unread != 0,
+                _ => false,
+            },
+            |ep| ep.receive().is_some(),
+        );
+        let plain = self.plain(opcode::FETCH);
+        Command { tile, endpoint, ..plain }
+    }
+
+    fn transfer(&mut self, opcode: u64) -> Command {
+        let is_memory = |endpoint: &Endpoint| endpoint.memory().is_some();
+        let (tile, endpoint) = self.actor(is_memory, is_memory);
+        let ep = match self.endpoint((tile, endpoint)) {
+            Endpoint::Memory(ep) => ep,
+            _ => {
+                let plain = self.plain(opcode);
+                return Command { tile, endpoint, ..plain };
+            }
+        };
+        let data_size = match self.random.weighted(&[60, 12, 8, 10, 3, 7]) {
+            0 => self.random.between(1, ep.size.clamp(1, 300)),
+            1 => self.random.between(1, ep.size.clamp(1, PAGE)),
+            2 => PAGE,
+            3 => 0,
+            4 => PAGE + 1,
+            _ => self.random.pick(&[1, 2, ep.size, u64::MAX, 1 << 63]),
+        };
+        let arg1 = self.offset(&ep, data_size);
+        let data_addr = self.local_place(&ep, tile, arg1, data_size);
+        let arg0 = self.any_number();
+        Command { tile, opcode, endpoint, arg0, data_addr, data_size, arg1 }
+    }
+
+    /// The ARG_1 of a READ or WRITE: within the region, at its end, past it, or
+    /// so large that a sum in 64 bits would wrap.
+    fn offset(&mut self, ep: &Memory, size: u64) -> u64 {
+        let room = ep.size.saturating_sub(size);
+        let reach = self.world.memory.saturating_sub(ep.addr).saturating_sub(size).min(room);
+        match self.random.weighted(&[46, 14, 12, 8, 12, 8]) {
+            0 => self.random.below(reach.max(1)),
+            1 => reach,
+            2 => room,
+            3 => room.saturating_add(1),
+            4 => u64::MAX - size.saturating_sub(self.random.pick(&[0, 1, 2])),
+            _ => self.random.pick(&[0, u64::MAX, ep.size, ep.addr.wrapping_neg(), 1 << 63]),
+        }
+    }
+
+    /// The DATA_ADDR of a READ or WRITE, on the same tile often near the remote
+    /// range, so that both overlap.
+    fn local_place(&mut self, ep: &Memory, tile: u64, arg1: u64, size: u64) -> u64 {
+        let memory = self.world.memory;
+        let remote = ep.addr.wrapping_add(arg1);
+        if u64::from(ep.tile) == tile && remote < memory && self.random.chance(70) {
+            let step = self.random.below(size.clamp(1, 64));
+            return self.random.pick(&[remote.saturating_sub(step), remote + step]);
+        }
+        let page = self.random.below(memory / PAGE) * PAGE;
+        let room = PAGE - size.min(PAGE);
+        match self.random.weighted(&[60, 14, 10, 8, 8]) {
+            0 => page + self.random.between(0, room),
+            1 => page + room,
+            2 => page + room + 1,
+            3 => self.random.pick(&[memory, memory + PAGE, memory - 1]),
+            _ => self.random.pick(&[u64::MAX, 1 << 63, 1 << 32, u64::MAX - PAGE + 1]),
+        }
+    }
+
+    // ------------------------------------------------------------ Host calls
+
+    fn receivers(&self) -> Vec<Place> {
+        let all = self.placed().filter(|(_, endpoint)| endpoint.receive().is_some());
+        all.map(|(place, _)| place).collect()
+    }
+
+    /// The words of some endpoint, acceptable or not.
+    fn some_words(&mut self) -> [u64; 3] {
+        let tile = self.random.below(self.world.tiles);
+        let receivers = self.receivers();
+        match self.random.weighted(&[62, 28, 5, 5]) {
+            0 => machines::any_endpoint(self.random, self.world, tile, &receivers).words(),
+            1 => machines::broken_words(self.random, self.world),
+            2 => [self.random.number(), self.random.number(), self.random.number()],
+            _ => {
+                let mut words =
+                    machines::any_endpoint(self.random, self.world, tile, &receivers).words();
+                words[self.random.below(3) as usize] ^= 1 << self.random.below(64);
+                words
+            }
+        }
+    }
+
+    fn configure(&mut self) -> Action {
+        let tile = self.tile();
+        let endpoint = self.any_id();
+        Action::Configure { tile, endpoint, words: self.some_words() }
+    }
+
+    /// A length that is mostly the right one.
+    fn list_length(&mut self, right: usize) -> usize {
+        if self.random.chance(93) {
+            return right;
+        }
+        self.random.pick(&[0, 1, right - 1, right + 1, right + 3])
+    }
+
+    fn junk(&mut self, length: usize) -> Vec<u64> {
+        (0..length).map(|_| self.random.number()).collect()
+    }
+
+    fn unpack(&mut self) -> Action {
+        let length = self.list_length(FIELDS);
+        Action::Unpack { words: self.some_words(), fields: self.junk(length) }
+    }
+
+    fn pack(&mut self) -> Action {
+        let words = self.some_words();
+        let mut fields = Endpoint::read(&words).fields().to_vec();
+        if self.random.chance(35) {
+            self.spoil(&mut fields);
+        }
+        let length = self.list_length(FIELDS);
+        fields.resize(length, 0);
+        let words_length = self.list_length(3);
+        Action::Pack { fields, words: self.junk(words_length) }
+    }
+
+    /// Makes one number of a list too large, or otherwise different.
+    fn spoil(&mut self, fields: &mut [u64]) {
+        let place = self.random.below(FIELDS as u64) as usize;
+        let width = self.random.pick(&[1, 2, 6, 8, 16, 32]);
+        let any = self.any_number();
+        let before = fields[place];
+        let choices = [1 << width, (1 << width) - 1, before | 1 << width, before ^ 1 << 32, any];
+        fields[place] = match place {
+            0 => self.random.pick(&[0, 1, 2, 3, 4, 7, 8, 256, (1 << 32) + 1]),
+            _ => self.random.pick(&choices),
+        };
+    }
+}

@@ -1,0 +1,19 @@
+//! Tests of the TCU library from outside.
+//!
+//! `model` is a second, independent reading of the rules in document 01.
+//! `generate` makes machines and calls, `wire` has them run by a child process
+//! that links the library, `compare` holds the two against each other after
+//! every call, and `coverage` counts which answers and corners were reached.
+
+pub mod call;
+pub mod compare;
+pub mod corners;
+pub mod coverage;
+pub mod endpoint;
+pub mod generate;
+pub mod machines;
+pub mod model;
+pub mod random;
+pub mod report;
+pub mod wire;
+pub mod wrong;

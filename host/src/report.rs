@@ -1,0 +1,112 @@
+//! Writes the first difference out in full.
+
+use crate::call::{Action, Call, Outcome, State};
+use crate::compare::Difference;
+use crate::model::{acceptable, Endpoint};
+use crate::wire::FAULTS;
+use std::fmt::Write;
+
+/// How many differing words and bytes are written out at most.
+const SHOWN: usize = 12;
+
+/// A call with all its numbers, in decimal and, for words, in hexadecimal.
+pub fn describe_call(call: &Call) -> String {
+    let s = &call.sizes;
+    let sizes = format!(
+        "tiles {} memory {} words_len {} acts_len {} mem_len {}",
+        s.tiles, s.memory, s.words_len, s.acts_len, s.mem_len
+    );
+    let action = match &call.action {
+        Action::Command(c) => format!(
+            "tcu_command: tile {} opcode {} endpoint {} arg0 {} data_addr {} data_size {} arg1 {}",
+            c.tile, c.opcode, c.endpoint, c.arg0, c.data_addr, c.data_size, c.arg1
+        ),
+        Action::Configure { tile, endpoint, words } => {
+            format!("tcu_configure: tile {} endpoint {} words {:#x?}", tile, endpoint, words)
+        }
+        Action::Invalidate { tile, endpoint } => {
+            format!("tcu_invalidate: tile {} endpoint {}", tile, endpoint)
+        }
+        Action::Wiring => "tcu_wiring".to_string(),
+        Action::Unpack { words, fields } => {
+            format!("tcu_unpack: words {:#x?} fields_len {}", words, fields.len())
+        }
+        Action::Pack { fields, words } => {
+            format!("tcu_pack: fields {:?} words_len {}", fields, words.len())
+        }
+    };
+    format!("{}\n  {}", action, sizes)
+}
+
+fn describe_outcome(outcome: &Outcome) -> String {
+    format!(
+        "answer {} arg1 {} fields {:?} packed {:#x?}",
+        outcome.answer, outcome.arg1, outcome.fields, outcome.packed
+    )
+}
+
+/// Everything about a difference: the call, the endpoints it was lent, what was
+/// expected and what came.
+pub fn describe(difference: &Difference) -> String {
+    let d = difference;
+    let mut text = format!(
+        "DIFFERENT at call {} (call {} of session {})\n",
+        d.before + 1,
+        d.place + 1,
+        d.session
+    );
+    let _ = writeln!(text, "  {}", describe_call(&d.call));
+    let _ = writeln!(text, "expected: {}", describe_outcome(&d.expected));
+    let _ = writeln!(text, "got:      {}", describe_outcome(&d.reply.outcome));
+    for (bit, fault) in FAULTS.iter().enumerate() {
+        if d.reply.faults >> bit & 1 == 1 {
+            let _ = writeln!(text, "the library {}", fault);
+        }
+    }
+    describe_words(&mut text, d);
+    describe_bytes(&mut text, d);
+    describe_table(&mut text, &d.lent, &d.call);
+    text
+}
+
+fn describe_words(text: &mut String, d: &Difference) {
+    let expected = d.expected_state.words.iter();
+    let pairs = expected.zip(&d.reported_state.words).enumerate();
+    for (place, (wanted, got)) in pairs.filter(|(_, (wanted, got))| wanted != got).take(SHOWN) {
+        let _ = writeln!(
+            text,
+            "word {} (tile {} endpoint {} word {}): before {:#x} expected {:#x} got {:#x}",
+            place,
+            place / 192,
+            place % 192 / 3,
+            place % 3,
+            d.lent.words[place],
+            wanted,
+            got
+        );
+    }
+}
+
+fn describe_bytes(text: &mut String, d: &Difference) {
+    let expected = d.expected_state.mem.iter();
+    let pairs = expected.zip(&d.reported_state.mem).enumerate();
+    for (place, (wanted, got)) in pairs.filter(|(_, (wanted, got))| wanted != got).take(SHOWN) {
+        let before = d.lent.mem[place];
+        let _ = writeln!(text, "byte {}: before {} expected {} got {}", place, before, wanted, got);
+    }
+}
+
+fn describe_table(text: &mut String, lent: &State, call: &Call) {
+    let _ = writeln!(text, "lent: acts {:?} and the endpoints", lent.acts);
+    for (place, words) in lent.words.chunks_exact(3).enumerate() {
+        if words == [0; 3] {
+            continue;
+        }
+        let kind = if acceptable(words, call.sizes.memory) {
+            format!("{:?}", Endpoint::read(words))
+        } else {
+            format!("not acceptable {:#x?}", words)
+        };
+        let _ = writeln!(text, "  tile {} endpoint {}: {}", place / 64, place % 64, kind);
+    }
+}

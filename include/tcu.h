@@ -1,0 +1,240 @@
+/*
+ * The TCU reference machine: a model of the trusted communication units of a
+ * tiled chip, as a library that keeps nothing between calls. The host lends
+ * everything for the length of one call.
+ *
+ * Link with libtcu.a. Example: examples/first.c.
+ *
+ *
+ * What the host lends
+ *
+ *   tiles    the number of tiles, 1 to 8, numbered from 0
+ *   memory   M, the bytes of memory of each tile: a multiple of 4096, from 4096
+ *            to 65536
+ *   words    the endpoint tables: 192 words per tile, three for each of its 64
+ *            endpoints, in order. Length exactly 192 * tiles.
+ *   acts     the activity id of each tile. Length exactly tiles.
+ *   mem      the memories one after the other: address a of tile t is
+ *            mem[t * M + a]. Length exactly M * tiles, in bytes.
+ *
+ * A table of zero words is good: every endpoint is INVALID. Every function may
+ * be given any numbers and any lengths; what is not allowed is refused with an
+ * answer. Pointers are never null, not even for a length of 0; each is valid for
+ * the whole length that is passed with it, and what is lent does not overlap.
+ *
+ *
+ * Answers
+ *
+ * Every function gives an answer, 0 for success (tcu_wiring: 1 or 0). A refusal,
+ * that is every answer but 0, changes nothing that was lent. Answers from 100 are
+ * about the host's own arguments and are tested first, in the order of their
+ * numbers.
+ */
+#ifndef TCU_H
+#define TCU_H
+
+#include <stddef.h>
+#include <stdint.h>
+
+#ifdef __cplusplus
+extern "C" {
+#endif
+
+/* Sizes. */
+#define TCU_MAX_TILES 8
+#define TCU_ENDPOINTS 64
+#define TCU_WORDS_PER_ENDPOINT 3
+#define TCU_WORDS_PER_TILE 192
+#define TCU_PAGE 4096
+#define TCU_MIN_MEMORY 4096
+#define TCU_MAX_MEMORY 65536
+/* The bytes of a message's header; the payload follows it in the slot. */
+#define TCU_HEADER 32
+/* The numbers in a list of fields. */
+#define TCU_FIELDS 11
+/* In rpl_eps, crd_ep and SEND's arg0: no endpoint. */
+#define TCU_NO_ENDPOINT 65535
+/* In cur_crd: unlimited credits. */
+#define TCU_UNLIMITED 63
+/* In *arg1 after a FETCH that found nothing. */
+#define TCU_NO_MESSAGE UINT64_MAX
+
+enum tcu_answer {
+    TCU_NONE = 0,                /* done */
+    TCU_NO_MEP = 1,              /* no memory endpoint */
+    TCU_NO_SEP = 2,              /* no send endpoint */
+    TCU_NO_REP = 3,              /* no receive endpoint */
+    TCU_FOREIGN_EP = 4,          /* the endpoint belongs to another activity */
+    TCU_SEND_REPLY_EP = 5,       /* SEND with a reply endpoint, or REPLY without */
+    TCU_RECV_GONE = 6,           /* the target is no receive endpoint */
+    TCU_RECV_NO_SPACE = 7,       /* the receive buffer is full */
+    TCU_REPLIES_DISABLED = 8,    /* the receive endpoint has no reply range */
+    TCU_OUT_OF_BOUNDS = 9,       /* offset or size too large for the endpoint */
+    TCU_NO_CREDITS = 10,         /* no credit left to send with */
+    TCU_NO_PERM = 11,            /* the memory endpoint does not permit this */
+    TCU_INV_MSG_OFF = 12,        /* arg0 names no slot */
+    TCU_ABORT = 14,              /* a range that lies outside the memory */
+    TCU_UNKNOWN_CMD = 15,        /* no such opcode */
+    TCU_RECV_OUT_OF_BOUNDS = 16, /* the message is too large for a slot */
+    TCU_RECV_INV_RPL_EPS = 17,   /* the reply range ends above 64 */
+    TCU_SEND_INV_CRD_EP = 18,    /* the reply endpoint's crd_ep is invalid */
+    TCU_SEND_INV_MSG_SZ = 19,    /* msg_sz is above 11 */
+    TCU_TIMEOUT_NOC = 21,        /* the target chip or tile does not exist */
+    TCU_PAGE_BOUNDARY = 22,      /* the local range crosses a page boundary */
+    TCU_MSG_UNALIGNED = 23,      /* a message's address is no multiple of 16 */
+    TCU_BAD_MACHINE = 100,       /* a size is wrong, or an endpoint in the table */
+    TCU_NO_SUCH_TILE = 101,      /* no such tile */
+    TCU_BAD_EP = 102,            /* endpoint number of 64 or more */
+    TCU_BAD_CONFIG = 103         /* words or fields that are not acceptable */
+};
+
+enum tcu_opcode {
+    TCU_OP_IDLE = 0,
+    TCU_OP_SEND = 1,
+    TCU_OP_REPLY = 2,
+    TCU_OP_READ = 3,
+    TCU_OP_WRITE = 4,
+    TCU_OP_FETCH = 5,
+    TCU_OP_ACK_MSG = 6
+};
+
+/* The kinds of endpoints: the first number of a list of fields. */
+enum tcu_kind {
+    TCU_KIND_INVALID = 0,
+    TCU_KIND_SEND = 1,
+    TCU_KIND_RECEIVE = 2,
+    TCU_KIND_MEMORY = 3
+};
+
+/*
+ * The places of the fields in a list. A place that the kind does not use is
+ * zero. The bits of each field stand beside it.
+ */
+enum tcu_field {
+    TCU_KIND = 0,
+
+    TCU_SEND_ACT = 1,      /* 16: the activity that may use it */
+    TCU_SEND_CUR_CRD = 2,  /*  6: credits now; 63 is unlimited */
+    TCU_SEND_MAX_CRD = 3,  /*  6: credits at first */
+    TCU_SEND_MSG_SZ = 4,   /*  6: largest message with header, as a power of 2 */
+    TCU_SEND_CRD_EP = 5,   /* 16: reply endpoints: the sender that gets a credit */
+    TCU_SEND_REPLY = 6,    /*  1: whether it is a reply endpoint */
+    TCU_SEND_TGT_EP = 7,   /* 16: the receive endpoint it aims at */
+    TCU_SEND_TGT_TILE = 8, /*  8: the tile it aims at */
+    TCU_SEND_TGT_CHIP = 9, /*  6: the chip it aims at; only chip 0 exists */
+    TCU_SEND_LABEL = 10,   /* 64: put into the header of every message */
+
+    TCU_RECEIVE_ACT = 1,       /* 16: the activity that may use it */
+    TCU_RECEIVE_RPL_EPS = 2,   /* 16: first endpoint of the reply range */
+    TCU_RECEIVE_SLOTS = 3,     /*  6: number of slots, as a power of 2, at most 5 */
+    TCU_RECEIVE_SLOT_SIZE = 4, /*  6: bytes in a slot, as a power of 2, 5 to 11 */
+    TCU_RECEIVE_WPOS = 5,      /*  6: where the search for a free slot starts */
+    TCU_RECEIVE_RPOS = 6,      /*  6: where the search for a message starts */
+    TCU_RECEIVE_BUFFER = 7,    /* 64: address of the slots, a multiple of 8 */
+    TCU_RECEIVE_OCCUPIED = 8,  /* 32: a bit for each slot in use */
+    TCU_RECEIVE_UNREAD = 9,    /* 32: a bit for each message not yet fetched */
+
+    TCU_MEMORY_ACT = 1,  /* 16: the activity that may use it */
+    TCU_MEMORY_RW = 2,   /*  2: 1 for read plus 2 for write */
+    TCU_MEMORY_TILE = 3, /*  8: the tile of the region */
+    TCU_MEMORY_CHIP = 4, /*  6: the chip of the region; only chip 0 exists */
+    TCU_MEMORY_ADDR = 5, /* 64: address of the region in that tile */
+    TCU_MEMORY_SIZE = 6  /* 64: bytes of the region */
+};
+
+/*
+ * Carries out one command of a tile, with its delivery.
+ *
+ *   tile       the acting tile
+ *   opcode     a tcu_opcode
+ *   endpoint   the endpoint of the acting tile that is used
+ *   arg0       SEND: the own receive endpoint for the reply, or TCU_NO_ENDPOINT
+ *              REPLY, ACK_MSG: the offset of the message, as FETCH gave it
+ *   data_addr  the local address of the data
+ *   data_size  its size in bytes, without a header
+ *   arg1       READ, WRITE: the offset in the region
+ *              SEND: the label that the reply will carry
+ *              FETCH: set to the offset of the message in the receive buffer, or
+ *              to TCU_NO_MESSAGE
+ *
+ * Only a FETCH that answers 0 changes *arg1.
+ *
+ *   IDLE     does nothing.
+ *   SEND     sends a message to the endpoint that a send endpoint aims at.
+ *   REPLY    answers a message held in a slot of a receive endpoint, and frees it.
+ *   READ     copies from a memory endpoint's region to local memory.
+ *   WRITE    copies from local memory to a memory endpoint's region.
+ *   FETCH    hands out the next unread message of a receive endpoint.
+ *   ACK_MSG  frees a slot without an answer.
+ */
+uint32_t tcu_command(uint64_t tiles, uint64_t memory,
+                     uint64_t *words, size_t words_len,
+                     const uint16_t *acts, size_t acts_len,
+                     uint8_t *mem, size_t mem_len,
+                     uint64_t tile, uint64_t opcode, uint64_t endpoint,
+                     uint64_t arg0, uint64_t data_addr, uint64_t data_size,
+                     uint64_t *arg1);
+
+/*
+ * Writes an endpoint. The three words come from tcu_pack.
+ * Answers: 0, 100, 101, 102, 103.
+ */
+uint32_t tcu_configure(uint64_t tiles, uint64_t memory,
+                       uint64_t *words, size_t words_len,
+                       const uint16_t *acts, size_t acts_len,
+                       const uint8_t *mem, size_t mem_len,
+                       uint64_t tile, uint64_t endpoint,
+                       uint64_t first, uint64_t second, uint64_t third);
+
+/*
+ * Makes an endpoint INVALID.
+ * Answers: 0, 100, 101, 102.
+ */
+uint32_t tcu_invalidate(uint64_t tiles, uint64_t memory,
+                        uint64_t *words, size_t words_len,
+                        const uint16_t *acts, size_t acts_len,
+                        const uint8_t *mem, size_t mem_len,
+                        uint64_t tile, uint64_t endpoint);
+
+/*
+ * Tells whether the wiring is sound: no message and no reply endpoint yet; each
+ * reply range within the table, over INVALID endpoints, apart from the others of
+ * its tile; each sender with all its credits, at most 62, and aimed at an
+ * existing receive endpoint; and no receive endpoint with more credits aimed at
+ * it than it has slots.
+ * Answers: 1 for yes, 0 for no, or 100.
+ */
+uint32_t tcu_wiring(uint64_t tiles, uint64_t memory,
+                    const uint64_t *words, size_t words_len,
+                    const uint16_t *acts, size_t acts_len,
+                    const uint8_t *mem, size_t mem_len);
+
+/*
+ * Turns the three words of an endpoint into its fields. fields_len is exactly
+ * TCU_FIELDS.
+ * Answers: 0; 100 for a memory or a length that is not allowed; 103 for words
+ * that are not acceptable.
+ */
+uint32_t tcu_unpack(uint64_t memory,
+                    uint64_t first, uint64_t second, uint64_t third,
+                    uint64_t *fields, size_t fields_len);
+
+/*
+ * Turns fields into the three words of an endpoint. fields_len is exactly
+ * TCU_FIELDS, words_len exactly TCU_WORDS_PER_ENDPOINT.
+ * Answers: 0; 100 for a memory or a length that is not allowed; 103 for an
+ * unknown kind, a field too large for its bits, an unused number that is not
+ * zero, or a receive endpoint that breaks one of these rules: at most 2^5 slots
+ * of 2^5 to 2^11 bytes; wpos and rpos at most the number of slots; no mask bit
+ * without a slot; every unread slot occupied; the buffer a multiple of 8, and
+ * all slots within the memory.
+ */
+uint32_t tcu_pack(uint64_t memory,
+                  const uint64_t *fields, size_t fields_len,
+                  uint64_t *words, size_t words_len);
+
+#ifdef __cplusplus
+}
+#endif
+
+#endif /* TCU_H */
