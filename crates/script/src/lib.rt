@@ -1,0 +1,179 @@
+// The statements of a script, one to a line (docs/SCRIPT.md). `parse` reads a line: it writes the values into an array that is
+// lent, and answers which statement it is, or the mistake. What each statement is made of stands in the tables of `language`.
+mod fields;
+mod operands;
+
+use language::names;
+use language::names::Found;
+use language::shapes;
+use language::wants;
+use lexer::Kind;
+use lexer::Token;
+
+// Where in the line a mistake stands, and what was expected there: a row of `wants`, and its detail. At the line's end it has
+// no byte.
+pub struct Mistake {
+    pub start: usize,
+    pub end: usize,
+    pub want: usize,
+    pub detail: u64,
+}
+
+pub enum Line {
+    Blank,
+    Do(usize),
+    Wrong(Mistake),
+}
+
+// How far a part of a line was read, or the mistake.
+enum Read {
+    Upto(usize),
+    Wrong(Mistake),
+}
+
+// What the lines before a line said of it: the board, with no tile before it is known; whether `board` was read; and what the
+// statement right before answers, as in `shapes`, or ? after a mistake, where nothing is known.
+pub struct Context {
+    pub tiles: u64,
+    pub memory: u64,
+    pub board_read: bool,
+    pub before: u8,
+}
+
+// Before the first line.
+pub fn at_start() -> Context {
+    Context {
+        tiles: 0,
+        memory: 0,
+        board_read: false,
+        before: b'.',
+    }
+}
+
+// After a statement.
+pub fn after(c: Context, form: usize, values: &[u64; 40]) -> Context {
+    if form == names::BOARD {
+        return Context {
+            tiles: values[shapes::TILES],
+            memory: values[shapes::MEMORY],
+            board_read: true,
+            before: b'.',
+        };
+    }
+    Context {
+        tiles: c.tiles,
+        memory: c.memory,
+        board_read: c.board_read,
+        before: shapes::answers(form),
+    }
+}
+
+// After a mistake. What follows is checked as if it had been right, so that one mistake is told once: where no board was
+// read, on the largest.
+pub fn after_mistake(c: Context) -> Context {
+    if c.tiles == 0 {
+        return Context {
+            tiles: 8,
+            memory: 65536,
+            board_read: false,
+            before: b'?',
+        };
+    }
+    Context {
+        tiles: c.tiles,
+        memory: c.memory,
+        board_read: c.board_read,
+        before: b'?',
+    }
+}
+
+// The token is a mistake.
+fn wrong(t: Token, want: usize, detail: u64) -> Mistake {
+    Mistake {
+        start: t.start,
+        end: t.end,
+        want,
+        detail,
+    }
+}
+
+fn clear(values: &mut [u64; 40], given: &mut [bool; 29]) {
+    *values = [0u64; 40];
+    *given = [false; 29];
+}
+
+// The rest of an `endpoint` from `at` on: its kind, which makes a statement of its own, and what that is made of.
+fn endpoint(
+    line: &[u8],
+    at: usize,
+    c: Context,
+    values: &mut [u64; 40],
+    given: &mut [bool; 29],
+) -> Line {
+    let t = lexer::next(line, at);
+    match names::find(line, t.start, t.end, names::KINDS, names::FIELDS) {
+        Found::At(form) => match operands::read(line, t.end, form, c, values) {
+            Read::Upto(end) => fields::read(line, end, form, c, values, given),
+            Read::Wrong(m) => Line::Wrong(m),
+        },
+        Found::Nothing => Line::Wrong(wrong(t, wants::KIND, 0)),
+    }
+}
+
+// The statement whose name is the token `t`.
+fn statement(
+    line: &[u8],
+    t: Token,
+    form: usize,
+    c: Context,
+    values: &mut [u64; 40],
+    given: &mut [bool; 29],
+) -> Line {
+    match operands::read(line, t.end, form, c, values) {
+        Read::Wrong(m) => Line::Wrong(m),
+        Read::Upto(end) => {
+            if form == names::ENDPOINT {
+                return endpoint(line, end, c, values, given);
+            }
+            fields::read(line, end, form, c, values, given)
+        }
+    }
+}
+
+// The same, where the statement may stand here.
+fn in_its_place(
+    line: &[u8],
+    t: Token,
+    form: usize,
+    c: Context,
+    values: &mut [u64; 40],
+    given: &mut [bool; 29],
+) -> Line {
+    if form == names::BOARD {
+        if c.board_read {
+            return Line::Wrong(wrong(t, wants::BOARD_ONCE, 0));
+        }
+        return statement(line, t, form, c, values, given);
+    }
+    if c.tiles == 0 {
+        return Line::Wrong(wrong(t, wants::BOARD_FIRST, 0));
+    }
+    if form == names::EXPECT && c.before == b'.' {
+        return Line::Wrong(wrong(t, wants::ANSWER_BEFORE, 0));
+    }
+    statement(line, t, form, c, values, given)
+}
+
+// What a line says.
+pub fn parse(line: &[u8], c: Context, values: &mut [u64; 40], given: &mut [bool; 29]) -> Line {
+    clear(values, given);
+    let t = lexer::next(line, 0);
+    let k = t.kind;
+    match k {
+        Kind::End => Line::Blank,
+        _ => match names::find(line, t.start, t.end, names::STATEMENTS, names::KINDS) {
+            Found::At(form) => in_its_place(line, t, form, c, values, given),
+            Found::Nothing => Line::Wrong(wrong(t, wants::STATEMENT, 0)),
+        },
+    }
+}
