@@ -13,14 +13,36 @@
  *            to 65536
  *   words    the endpoint tables: 192 words per tile, three for each of its 64
  *            endpoints, in order. Length exactly 192 * tiles.
- *   acts     the activity id of each tile. Length exactly tiles.
+ *   sharing  the sharing records: 67 words per tile, which say what activity the
+ *            tile runs and what waits for the others. Length exactly 67 * tiles.
  *   mem      the memories one after the other: address a of tile t is
  *            mem[t * M + a]. Length exactly M * tiles, in bytes.
  *
- * A table of zero words is good: every endpoint is INVALID. Every function may
- * be given any numbers and any lengths; what is not allowed is refused with an
+ * A table of zero words is good: every endpoint is INVALID. Records of zero words
+ * are good: every tile runs activity 0 and nothing waits. Every function may be
+ * given any numbers and any lengths; what is not allowed is refused with an
  * answer. Pointers are never null, not even for a length of 0; each is valid for
  * the whole length that is passed with it, and what is lent does not overlap.
+ *
+ *
+ * The sharing record of a tile
+ *
+ *   word 0        CUR_ACT: the id of the activity that runs in bits 0..15, the
+ *                 number of its unread messages in 16..31; below 2^32
+ *   word 1        the place of the oldest request, 0 to 63
+ *   word 2        how many requests wait, at most 64
+ *   words 3..66   the 64 places for requests
+ *
+ * A message for an activity that the tile does not run at the moment leaves a
+ * request there. Requests wait in order: request k, 0 for the oldest, stands at
+ * word 3 + (oldest + k) mod 64. A request has 2 in bits 0..1, the receive
+ * endpoint, below 64, in 2..17, its activity in 48..63, and no other bit set.
+ * Places where none waits may hold anything.
+ *
+ * The count goes up by one with each message delivered to the activity that
+ * runs, and down by one where a FETCH hands out a message, or a REPLY or ACK_MSG
+ * frees a slot that is still unread. It is counted modulo 65536, and a switch of
+ * activities takes it along: the host keeps the word that XCHG_ACT hands back.
  *
  *
  * Answers
@@ -48,6 +70,16 @@ extern "C" {
 #define TCU_PAGE 4096
 #define TCU_MIN_MEMORY 4096
 #define TCU_MAX_MEMORY 65536
+/* The words of a sharing record, and the requests that can wait in it. */
+#define TCU_SHARING_PER_TILE 67
+#define TCU_QUEUE 64
+/* The places of its words. */
+#define TCU_SHARING_CUR_ACT 0
+#define TCU_SHARING_OLDEST 1
+#define TCU_SHARING_WAITING 2
+#define TCU_SHARING_REQUESTS 3
+/* The numbers in the list that tcu_waiting fills. */
+#define TCU_WAITING 3
 /* The bytes of a message's header; the payload follows it in the slot. */
 #define TCU_HEADER 32
 /* The numbers in a list of fields. */
@@ -67,7 +99,7 @@ enum tcu_answer {
     TCU_FOREIGN_EP = 4,          /* the endpoint belongs to another activity */
     TCU_SEND_REPLY_EP = 5,       /* SEND with a reply endpoint, or REPLY without */
     TCU_RECV_GONE = 6,           /* the target is no receive endpoint */
-    TCU_RECV_NO_SPACE = 7,       /* the receive buffer is full */
+    TCU_RECV_NO_SPACE = 7,       /* the receive buffer is full, or the queue */
     TCU_REPLIES_DISABLED = 8,    /* the receive endpoint has no reply range */
     TCU_OUT_OF_BOUNDS = 9,       /* offset or size too large for the endpoint */
     TCU_NO_CREDITS = 10,         /* no credit left to send with */
@@ -82,7 +114,7 @@ enum tcu_answer {
     TCU_TIMEOUT_NOC = 21,        /* the target chip or tile does not exist */
     TCU_PAGE_BOUNDARY = 22,      /* the local range crosses a page boundary */
     TCU_MSG_UNALIGNED = 23,      /* a message's address is no multiple of 16 */
-    TCU_BAD_MACHINE = 100,       /* a size is wrong, or an endpoint in the table */
+    TCU_BAD_MACHINE = 100,       /* a size, an endpoint or a record is wrong */
     TCU_NO_SUCH_TILE = 101,      /* no such tile */
     TCU_BAD_EP = 102,            /* endpoint number of 64 or more */
     TCU_BAD_CONFIG = 103         /* words or fields that are not acceptable */
@@ -96,6 +128,19 @@ enum tcu_opcode {
     TCU_OP_WRITE = 4,
     TCU_OP_FETCH = 5,
     TCU_OP_ACK_MSG = 6
+};
+
+/* Of tcu_privileged. */
+enum tcu_privileged_opcode {
+    TCU_PRIV_IDLE = 0,
+    TCU_PRIV_XCHG_ACT = 4
+};
+
+/* The places of the numbers in the list of tcu_waiting. */
+enum tcu_waiting_place {
+    TCU_WAITING_COUNT = 0,    /* how many requests wait */
+    TCU_WAITING_ENDPOINT = 1, /* the oldest: the endpoint that got the message */
+    TCU_WAITING_ACT = 2       /* the oldest: the activity it is for */
 };
 
 /* The kinds of endpoints: the first number of a list of fields. */
@@ -166,10 +211,15 @@ enum tcu_field {
  *   WRITE    copies from local memory to a memory endpoint's region.
  *   FETCH    hands out the next unread message of a receive endpoint.
  *   ACK_MSG  frees a slot without an answer.
+ *
+ * Only endpoints of the activity that the acting tile runs can be used. SEND and
+ * REPLY count the message, or queue a request for it, at the tile that receives
+ * it; where 64 requests wait there, a message for an activity that it does not
+ * run is refused with 7.
  */
 uint32_t tcu_command(uint64_t tiles, uint64_t memory,
                      uint64_t *words, size_t words_len,
-                     const uint16_t *acts, size_t acts_len,
+                     uint64_t *sharing, size_t sharing_len,
                      uint8_t *mem, size_t mem_len,
                      uint64_t tile, uint64_t opcode, uint64_t endpoint,
                      uint64_t arg0, uint64_t data_addr, uint64_t data_size,
@@ -181,7 +231,7 @@ uint32_t tcu_command(uint64_t tiles, uint64_t memory,
  */
 uint32_t tcu_configure(uint64_t tiles, uint64_t memory,
                        uint64_t *words, size_t words_len,
-                       const uint16_t *acts, size_t acts_len,
+                       const uint64_t *sharing, size_t sharing_len,
                        const uint8_t *mem, size_t mem_len,
                        uint64_t tile, uint64_t endpoint,
                        uint64_t first, uint64_t second, uint64_t third);
@@ -192,9 +242,56 @@ uint32_t tcu_configure(uint64_t tiles, uint64_t memory,
  */
 uint32_t tcu_invalidate(uint64_t tiles, uint64_t memory,
                         uint64_t *words, size_t words_len,
-                        const uint16_t *acts, size_t acts_len,
+                        const uint64_t *sharing, size_t sharing_len,
                         const uint8_t *mem, size_t mem_len,
                         uint64_t tile, uint64_t endpoint);
+
+/*
+ * Carries out one privileged command of a tile.
+ *
+ *   tile    the acting tile
+ *   opcode  a tcu_privileged_opcode
+ *   arg0    XCHG_ACT: the new CUR_ACT in its low 32 bits, the id in bits 0..15 and
+ *           the number of unread messages in 16..31
+ *   arg1    XCHG_ACT: set to CUR_ACT as it was
+ *
+ * Only an XCHG_ACT that answers 0 changes *arg1.
+ *
+ *   IDLE      does nothing.
+ *   XCHG_ACT  has the tile run another activity.
+ *
+ * Answers: 0, 15, 100, 101.
+ */
+uint32_t tcu_privileged(uint64_t tiles, uint64_t memory,
+                        const uint64_t *words, size_t words_len,
+                        uint64_t *sharing, size_t sharing_len,
+                        const uint8_t *mem, size_t mem_len,
+                        uint64_t tile, uint64_t opcode, uint64_t arg0,
+                        uint64_t *arg1);
+
+/*
+ * The tile's response to its oldest request, which no longer waits then. Where
+ * none waits, nothing changes and the answer is 0.
+ * Answers: 0, 100, 101.
+ */
+uint32_t tcu_respond(uint64_t tiles, uint64_t memory,
+                     const uint64_t *words, size_t words_len,
+                     uint64_t *sharing, size_t sharing_len,
+                     const uint8_t *mem, size_t mem_len,
+                     uint64_t tile);
+
+/*
+ * Tells what waits at a tile: how many requests, and the endpoint and the
+ * activity of the oldest, both 0 where none waits. waiting_len is exactly
+ * TCU_WAITING; this is tested first.
+ * Answers: 0, 100, 101.
+ */
+uint32_t tcu_waiting(uint64_t tiles, uint64_t memory,
+                     const uint64_t *words, size_t words_len,
+                     const uint64_t *sharing, size_t sharing_len,
+                     const uint8_t *mem, size_t mem_len,
+                     uint64_t tile,
+                     uint64_t *waiting, size_t waiting_len);
 
 /*
  * Tells whether the wiring is sound: no message and no reply endpoint yet; each
@@ -206,7 +303,7 @@ uint32_t tcu_invalidate(uint64_t tiles, uint64_t memory,
  */
 uint32_t tcu_wiring(uint64_t tiles, uint64_t memory,
                     const uint64_t *words, size_t words_len,
-                    const uint16_t *acts, size_t acts_len,
+                    const uint64_t *sharing, size_t sharing_len,
                     const uint8_t *mem, size_t mem_len);
 
 /*

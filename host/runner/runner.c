@@ -17,11 +17,13 @@ enum { GUARD = 64, GUARD_BYTE = 0xA5, BLOCK = 4096, HEAD = 15 };
 
 /* The bits of a reply's faults, in the order of FAULTS in wire.rs. */
 enum fault {
-    BESIDE_WORDS, BESIDE_ACTS, BESIDE_MEM, BESIDE_FIELDS, BESIDE_PACKED, BESIDE_ARG1,
-    INTO_ACTS, INTO_WORDS, INTO_MEM, INTO_FIELDS
+    BESIDE_WORDS, BESIDE_SHARING, BESIDE_MEM, BESIDE_FIELDS, BESIDE_PACKED, BESIDE_ARG1,
+    INTO_SHARING, INTO_WORDS, INTO_MEM, INTO_FIELDS
 };
 
-enum function { COMMAND, CONFIGURE, INVALIDATE, WIRING, UNPACK, PACK };
+enum function {
+    COMMAND, CONFIGURE, INVALIDATE, WIRING, UNPACK, PACK, PRIVILEGED, RESPOND, WAITING
+};
 
 /* A slice that is lent: guard, data, guard; and a copy of the data. */
 struct lent {
@@ -31,7 +33,8 @@ struct lent {
     size_t bytes;
 };
 
-static struct lent words, acts, mem, fields, packed, arg1;
+/* The fields are also the list of tcu_waiting. */
+static struct lent words, sharing, mem, fields, packed, arg1;
 
 /* The ranges of the memory that the last call has changed. */
 static struct range {
@@ -41,7 +44,7 @@ static size_t range_count, range_room;
 
 /* A call as it comes in; the fields and the packed words follow it. */
 struct call {
-    uint64_t function, tiles, memory, words_len, acts_len, mem_len;
+    uint64_t function, tiles, memory, words_len, sharing_len, mem_len;
     uint64_t tile, endpoint, numbers[5];
     uint64_t fields_len, packed_len;
 };
@@ -106,19 +109,23 @@ static uint64_t guards_broken(const struct lent *slice, enum fault fault)
 /* What the library must not have written to. */
 static uint64_t faults(const struct call *call)
 {
-    uint64_t found = guards_broken(&words, BESIDE_WORDS) | guards_broken(&acts, BESIDE_ACTS) |
+    uint64_t found = guards_broken(&words, BESIDE_WORDS) |
+                     guards_broken(&sharing, BESIDE_SHARING) |
                      guards_broken(&mem, BESIDE_MEM) | guards_broken(&fields, BESIDE_FIELDS) |
                      guards_broken(&packed, BESIDE_PACKED) | guards_broken(&arg1, BESIDE_ARG1);
     int writes_words = call->function == COMMAND || call->function == CONFIGURE ||
                        call->function == INVALIDATE;
+    int writes_sharing = call->function == COMMAND || call->function == PRIVILEGED ||
+                         call->function == RESPOND;
+    int writes_fields = call->function == UNPACK || call->function == WAITING;
 
-    if (changed(&acts))
-        found |= UINT64_C(1) << INTO_ACTS;
+    if (!writes_sharing && changed(&sharing))
+        found |= UINT64_C(1) << INTO_SHARING;
     if (!writes_words && changed(&words))
         found |= UINT64_C(1) << INTO_WORDS;
     if (call->function != COMMAND && range_count != 0)
         found |= UINT64_C(1) << INTO_MEM;
-    if (call->function != UNPACK && changed(&fields))
+    if (!writes_fields && changed(&fields))
         found |= UINT64_C(1) << INTO_FIELDS;
     return found;
 }
@@ -127,43 +134,52 @@ static uint64_t faults(const struct call *call)
 static uint32_t make(const struct call *c)
 {
     uint64_t *w = (uint64_t *)words.data, *f = (uint64_t *)fields.data;
-    const uint16_t *a = (const uint16_t *)acts.data;
+    uint64_t *s = (uint64_t *)sharing.data;
     const uint64_t *n = c->numbers;
 
     switch (c->function) {
     case COMMAND:
-        return tcu_command(c->tiles, c->memory, w, c->words_len, a, c->acts_len, mem.data,
+        return tcu_command(c->tiles, c->memory, w, c->words_len, s, c->sharing_len, mem.data,
                            c->mem_len, c->tile, n[0], c->endpoint, n[1], n[2], n[3],
                            (uint64_t *)arg1.data);
     case CONFIGURE:
-        return tcu_configure(c->tiles, c->memory, w, c->words_len, a, c->acts_len, mem.data,
+        return tcu_configure(c->tiles, c->memory, w, c->words_len, s, c->sharing_len, mem.data,
                              c->mem_len, c->tile, c->endpoint, n[0], n[1], n[2]);
     case INVALIDATE:
-        return tcu_invalidate(c->tiles, c->memory, w, c->words_len, a, c->acts_len, mem.data,
+        return tcu_invalidate(c->tiles, c->memory, w, c->words_len, s, c->sharing_len, mem.data,
                               c->mem_len, c->tile, c->endpoint);
     case WIRING:
-        return tcu_wiring(c->tiles, c->memory, w, c->words_len, a, c->acts_len, mem.data,
+        return tcu_wiring(c->tiles, c->memory, w, c->words_len, s, c->sharing_len, mem.data,
                           c->mem_len);
     case UNPACK:
         return tcu_unpack(c->memory, n[0], n[1], n[2], f, c->fields_len);
     case PACK:
         return tcu_pack(c->memory, f, c->fields_len, (uint64_t *)packed.data, c->packed_len);
+    case PRIVILEGED:
+        return tcu_privileged(c->tiles, c->memory, w, c->words_len, s, c->sharing_len, mem.data,
+                              c->mem_len, c->tile, n[0], n[1], (uint64_t *)arg1.data);
+    case RESPOND:
+        return tcu_respond(c->tiles, c->memory, w, c->words_len, s, c->sharing_len, mem.data,
+                           c->mem_len, c->tile);
+    case WAITING:
+        return tcu_waiting(c->tiles, c->memory, w, c->words_len, s, c->sharing_len, mem.data,
+                           c->mem_len, c->tile, f, c->fields_len);
     default:
         fail("no such function");
         return 0;
     }
 }
 
-/* Reports the words that differ from the copy, or only counts them. */
-static uint64_t changed_words(int report)
+/* Reports the words of a slice that differ from the copy, or only counts them. */
+static uint64_t changed_words(const struct lent *slice, int report)
 {
-    const uint64_t *now = (const uint64_t *)words.data;
-    const uint64_t *before = (const uint64_t *)words.copy;
+    const uint64_t *now = (const uint64_t *)slice->data;
+    const uint64_t *before = (const uint64_t *)slice->copy;
     uint64_t count = 0;
 
-    if (!changed(&words))
+    if (!changed(slice))
         return 0;
-    for (size_t place = 0; place < words.bytes / sizeof *now; place++) {
+    for (size_t place = 0; place < slice->bytes / sizeof *now; place++) {
         if (now[place] == before[place])
             continue;
         count++;
@@ -228,11 +244,13 @@ static void reply(uint32_t answer, const struct call *call)
 
     memcpy(&after, arg1.data, sizeof after);
     put_number(answer);
-    put_number(call->function == COMMAND ? after : 0);
+    put_number(call->function == COMMAND || call->function == PRIVILEGED ? after : 0);
     put_number(faults(call));
-    put_number(changed_words(0));
+    put_number(changed_words(&words, 0));
+    put_number(changed_words(&sharing, 0));
     put_number(range_count);
-    changed_words(1);
+    changed_words(&words, 1);
+    changed_words(&sharing, 1);
     for (size_t at = 0; at < range_count; at++) {
         size_t start = ranges[at].start, length = ranges[at].end - start;
 
@@ -266,6 +284,7 @@ static const unsigned char *run(const unsigned char *at)
     find_ranges();
     reply(answer, &call);
     copy(&words);
+    copy(&sharing);
     return at;
 }
 
@@ -278,17 +297,17 @@ static void batch(void)
 
     take(sizes, sizeof sizes);
     lend(&words, sizes[0] * 8);
-    lend(&acts, sizes[1] * 2);
+    lend(&sharing, sizes[1] * 8);
     lend(&mem, sizes[2]);
     calls = malloc(sizes[4] + 1);
     if (calls == NULL)
         fail("no memory left");
     take(words.data, words.bytes);
-    take(acts.data, acts.bytes);
+    take(sharing.data, sharing.bytes);
     take(mem.data, mem.bytes);
     take(calls, sizes[4]);
     copy(&words);
-    copy(&acts);
+    copy(&sharing);
     copy(&mem);
     at = calls;
     for (uint64_t done = 0; done < sizes[3]; done++)

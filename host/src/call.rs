@@ -8,7 +8,7 @@ use crate::wrong::Wrong;
 #[derive(Clone, Debug, Default, PartialEq, Eq)]
 pub struct State {
     pub words: Vec<u64>,
-    pub acts: Vec<u16>,
+    pub sharing: Vec<u64>,
     pub mem: Vec<u8>,
 }
 
@@ -18,7 +18,7 @@ pub struct Sizes {
     pub tiles: u64,
     pub memory: u64,
     pub words_len: u64,
-    pub acts_len: u64,
+    pub sharing_len: u64,
     pub mem_len: u64,
 }
 
@@ -27,6 +27,9 @@ pub enum Action {
     Command(Command),
     Configure { tile: u64, endpoint: u64, words: [u64; 3] },
     Invalidate { tile: u64, endpoint: u64 },
+    Privileged { tile: u64, opcode: u64, arg0: u64, arg1: u64 },
+    Respond { tile: u64 },
+    Waiting { tile: u64, list: Vec<u64> },
     Wiring,
     Unpack { words: [u64; 3], fields: Vec<u64> },
     Pack { fields: Vec<u64>, words: Vec<u64> },
@@ -39,7 +42,8 @@ pub struct Call {
 }
 
 /// What a call gives back, besides what it did to the lent state. The lists are
-/// those lent to `tcu_unpack` and `tcu_pack`, as they are afterwards.
+/// those lent to `tcu_unpack` and `tcu_pack`, as they are afterwards; `fields` is
+/// also the list lent to `tcu_waiting`.
 #[derive(Clone, Debug, Default, PartialEq, Eq)]
 pub struct Outcome {
     pub answer: u32,
@@ -55,7 +59,7 @@ impl State {
             tiles: sizes.tiles,
             memory: sizes.memory,
             words: &mut self.words[..sizes.words_len as usize],
-            acts: &self.acts[..sizes.acts_len as usize],
+            sharing: &mut self.sharing[..sizes.sharing_len as usize],
             mem: &mut self.mem[..sizes.mem_len as usize],
             wrong,
         }
@@ -84,6 +88,7 @@ impl Call {
 
 fn run_on_machine(action: &Action, mut machine: Machine) -> Outcome {
     let mut arg1 = 0;
+    let mut fields = Vec::new();
     let answer = match action {
         Action::Command(command) => {
             let (answer, after) = machine.command(command);
@@ -94,7 +99,17 @@ fn run_on_machine(action: &Action, mut machine: Machine) -> Outcome {
             machine.configure(*tile, *endpoint, *words) as u32
         }
         Action::Invalidate { tile, endpoint } => machine.invalidate(*tile, *endpoint) as u32,
+        Action::Privileged { tile, opcode, arg0, arg1: given } => {
+            let (answer, after) = machine.privileged(*tile, *opcode, *arg0, *given);
+            arg1 = after;
+            answer as u32
+        }
+        Action::Respond { tile } => machine.respond(*tile) as u32,
+        Action::Waiting { tile, list } => {
+            fields.clone_from(list);
+            machine.waiting(*tile, &mut fields) as u32
+        }
         _ => machine.wiring().map_or_else(|refusal| refusal as u32, u32::from),
     };
-    Outcome { answer, arg1, ..Outcome::default() }
+    Outcome { answer, arg1, fields, ..Outcome::default() }
 }

@@ -1,5 +1,5 @@
 //! Holds a runner against the model: after each call the answer, ARG_1, every
-//! lent word and every lent byte.
+//! lent word, of the tables and the sharing records, and every lent byte.
 
 use crate::call::{Call, Outcome, State};
 use crate::coverage::Coverage;
@@ -75,9 +75,10 @@ fn compare(
 ) -> Result<(), Box<Difference>> {
     let mut expected_state = session.state.clone();
     let mut reported_state = session.state.clone();
-    let mut words_before = Vec::new();
+    let (mut words_before, mut sharing_before) = (Vec::new(), Vec::new());
     for (place, (call, reply)) in session.calls.iter().zip(replies).enumerate() {
         words_before.clone_from(&expected_state.words);
+        sharing_before.clone_from(&expected_state.sharing);
         let expected = call.run(&mut expected_state, wrong);
         reply.apply(&mut reported_state);
         let same =
@@ -95,7 +96,7 @@ fn compare(
                 reported_state,
             }));
         }
-        coverage.count(call, &words_before, &session.state.acts, &expected);
+        coverage.count(call, &words_before, &sharing_before, &expected);
     }
     Ok(())
 }

@@ -4,10 +4,11 @@
 
 use crate::call::{Action, Call, Outcome, Sizes};
 use crate::model::WORDS_PER_TILE;
-use crate::model::{self, find_slot, opcode, Command, Endpoint, Memory, Receive, Send};
+use crate::model::{self, find_slot, opcode, privileged, Command, Endpoint, Memory, Receive, Send};
 use crate::model::{
     ENDPOINTS, FIELDS, HEADER, MAX_MEMORY, MAX_TILES, NO_ENDPOINT, PAGE, UNLIMITED,
 };
+use crate::sharing::SHARING_PER_TILE;
 
 /// Every corner. `visit` names no other.
 pub const CORNERS: &[&str] = &[
@@ -24,6 +25,21 @@ pub const CORNERS: &[&str] = &[
     "delivery: payload overlaps its header's place",
     "delivery: payload overlaps its own place",
     "delivery: a full slot ends with the memory",
+    "delivery: counted",
+    "delivery: the count goes from 65535 to 0",
+    "delivery: counted while the queue is full",
+    "delivery: counted, from another activity",
+    "delivery: queued",
+    "delivery: queued, the sender's activity runs there",
+    "delivery: queued where none waits",
+    "delivery: queued as the 64th request",
+    "delivery: queued at place 63",
+    "delivery: queued behind place 63",
+    "delivery: queued at the own tile",
+    "delivery: queue and slots are full",
+    "delivery: 16 while the queue is full",
+    "delivery: 17 while the queue is full",
+    "SEND: 7 for the queue alone",
     "SEND: unlimited credits",
     "SEND: the last credit",
     "SEND: 62 credits",
@@ -45,6 +61,12 @@ pub const CORNERS: &[&str] = &[
     "REPLY: credit for the reply endpoint itself",
     "REPLY: slot still unread",
     "REPLY: slot is free",
+    "REPLY: 7 for the queue alone",
+    "REPLY: lost, the count goes from 65535 to 0",
+    "REPLY: into the free slot that it names",
+    "REPLY: unread, and counted at the own tile",
+    "REPLY: unread, and queued at the own tile",
+    "REPLY: unread, the count goes from 0 to 65535",
     "REPLY: 8 before 4",
     "REPLY: 17 before 4",
     "REPLY: 17 from the receiver",
@@ -56,8 +78,12 @@ pub const CORNERS: &[&str] = &[
     "FETCH: the search goes round",
     "FETCH: rpos is 2^slots",
     "FETCH: slot 31",
+    "FETCH: the count goes from 0 to 65535",
+    "FETCH: nothing unread and a count of 0",
     "ACK_MSG: the slot is free",
     "ACK_MSG: the slot is unread",
+    "ACK_MSG: the slot is read",
+    "ACK_MSG: the count goes from 0 to 65535",
     "ACK_MSG: clears its own endpoint",
     "ACK_MSG: clears an endpoint in use",
     "ACK_MSG: no reply range",
@@ -78,6 +104,20 @@ pub const CORNERS: &[&str] = &[
     "transfer: 14 for the local range alone",
     "endpoint number right in its low bits only",
     "opcode right in its low bits only",
+    "XCHG_ACT: another activity",
+    "XCHG_ACT: the count alone",
+    "XCHG_ACT: arg0 has bits above 32",
+    "XCHG_ACT: while requests wait",
+    "privileged opcode right in its low bits only",
+    "respond: none waits",
+    "respond: the last one that waits",
+    "respond: 64 wait",
+    "respond: the oldest at place 63",
+    "waiting: none",
+    "waiting: 64",
+    "waiting: the oldest at place 63",
+    "waiting: list of another length",
+    "waiting: list of another length and no such tile",
     "100: tiles 0",
     "100: tiles above 8, other sizes to match",
     "100: 192 * tiles wraps to the right length",
@@ -87,12 +127,25 @@ pub const CORNERS: &[&str] = &[
     "100: M * tiles wraps to the right length",
     "100: words too short",
     "100: words too long",
-    "100: acts too short",
-    "100: acts too long",
+    "100: sharing too short",
+    "100: sharing too long",
     "100: mem too short",
     "100: mem too long",
     "100: only the last endpoint of the last tile is bad",
     "100: only the first endpoint is bad",
+    "record: CUR_ACT above 32 bits",
+    "record: the oldest at 64 or above",
+    "record: 65 wait",
+    "record: far more than 64 wait",
+    "record: a request of another type",
+    "record: a request's endpoint is 64 or above",
+    "record: a request with an unnamed bit",
+    "record: only the oldest request is bad",
+    "record: only the newest request is bad",
+    "record: only the 64th request is bad",
+    "record: only that of the first tile is bad",
+    "record: only that of the last tile is bad",
+    "record: good, with no request where none waits",
     "words: type 4 to 7",
     "words: INVALID with a bit set",
     "words: unnamed bit in the first word of SEND",
@@ -126,11 +179,11 @@ pub const CORNERS: &[&str] = &[
     "wiring: too much promised",
 ];
 
-/// A call with the words it was lent and what came back.
+/// A call with the words and records it was lent and what came back.
 pub struct Seen<'a> {
     pub call: &'a Call,
     pub words: &'a [u64],
-    pub acts: &'a [u16],
+    pub sharing: &'a [u64],
     pub outcome: &'a Outcome,
 }
 
@@ -138,14 +191,28 @@ type Hit<'a> = &'a mut dyn FnMut(&'static str);
 
 /// Names each corner that the call has reached.
 pub fn visit(seen: &Seen, hit: Hit) {
+    if matches!(seen.call.action, Action::Respond { .. }) && seen.answer() == 0 {
+        visit_good_records(seen, hit);
+    }
     match &seen.call.action {
         Action::Unpack { words, fields } => {
             hit_if(hit, fields.len() != FIELDS, "unpack: fields of another length");
             visit_refused_words(seen, words, hit);
         }
         Action::Pack { fields, words } => visit_pack(seen, fields, words, hit),
+        Action::Waiting { tile, list } if list.len() != 3 => {
+            hit("waiting: list of another length");
+            let no_tile = *tile >= seen.sizes().tiles;
+            hit_if(hit, no_tile, "waiting: list of another length and no such tile");
+        }
         _ if seen.outcome.answer == 100 => visit_bad_machine(seen, hit),
+        _ if seen.outcome.answer == 101 => {}
         Action::Command(command) => visit_command(seen, command, hit),
+        Action::Privileged { tile, opcode, arg0, .. } => {
+            visit_privileged(seen, *tile, *opcode, *arg0, hit);
+        }
+        Action::Respond { tile } => visit_respond(&seen.record(*tile), hit),
+        Action::Waiting { tile, .. } => visit_waiting(&seen.record(*tile), hit),
         Action::Configure { words, .. } => visit_refused_words(seen, words, hit),
         Action::Wiring if seen.outcome.answer == 0 => visit_unsound(seen, hit),
         _ => {}
@@ -172,11 +239,113 @@ impl Seen<'_> {
     }
 
     fn own(&self, tile: u64) -> u16 {
-        self.acts[tile as usize]
+        self.record(tile).id
+    }
+
+    /// The head of a tile's sharing record, taken apart by a second reading.
+    fn record(&self, tile: u64) -> Head {
+        let words = &self.sharing[(tile * SHARING_PER_TILE) as usize..];
+        Head {
+            id: (words[0] % 65_536) as u16,
+            count: (words[0] / 65_536 % 65_536) as u16,
+            oldest: words[1],
+            waiting: words[2],
+        }
     }
 
     fn answer(&self) -> u32 {
         self.outcome.answer
+    }
+}
+
+/// Whether a place where none waits held no request, and the record was accepted;
+/// also holds the model against the second test of the records below.
+fn visit_good_records(seen: &Seen, hit: Hit) {
+    for record in seen.sharing[..seen.sizes().sharing_len as usize].chunks_exact(67) {
+        let agree = record_faults(record).is_empty();
+        hit_if(hit, !agree, "the two tests of the records do not agree");
+        let stray = record[3..].iter().any(|word| !request_faults(*word).is_empty());
+        hit_if(hit, stray, "record: good, with no request where none waits");
+    }
+}
+
+/// What stands before the requests in a sharing record.
+struct Head {
+    id: u16,
+    count: u16,
+    oldest: u64,
+    waiting: u64,
+}
+
+// ---------------------------------------------------------------- Sharing
+
+fn visit_privileged(seen: &Seen, tile: u64, opcode: u64, arg0: u64, hit: Hit) {
+    let low_opcode = seen.answer() == 15 && opcode % 256 == privileged::XCHG_ACT;
+    hit_if(hit, low_opcode, "privileged opcode right in its low bits only");
+    if opcode != privileged::XCHG_ACT {
+        return;
+    }
+    let before = seen.record(tile);
+    let (id, count) = (arg0 as u16, (arg0 >> 16) as u16);
+    hit_if(hit, id != before.id, "XCHG_ACT: another activity");
+    let count_alone = id == before.id && count != before.count;
+    hit_if(hit, count_alone, "XCHG_ACT: the count alone");
+    hit_if(hit, arg0 >> 32 != 0, "XCHG_ACT: arg0 has bits above 32");
+    hit_if(hit, before.waiting != 0, "XCHG_ACT: while requests wait");
+}
+
+fn visit_respond(before: &Head, hit: Hit) {
+    match before.waiting {
+        0 => hit("respond: none waits"),
+        1 => hit("respond: the last one that waits"),
+        64 => hit("respond: 64 wait"),
+        _ => {}
+    }
+    let goes_round = before.waiting != 0 && before.oldest == 63;
+    hit_if(hit, goes_round, "respond: the oldest at place 63");
+}
+
+fn visit_waiting(before: &Head, hit: Hit) {
+    hit_if(hit, before.waiting == 0, "waiting: none");
+    hit_if(hit, before.waiting == 64, "waiting: 64");
+    let at_end = before.waiting != 0 && before.oldest == 63;
+    hit_if(hit, at_end, "waiting: the oldest at place 63");
+}
+
+/// What an accepted or refused delivery meets in the receiving tile's record.
+fn visit_arrival(seen: &Seen, c: &Command, sender: &Send, receiver: &Receive, hit: Hit) {
+    let tile = u64::from(sender.tgt_tile);
+    let before = seen.record(tile);
+    let foreign = receiver.act != before.id;
+    let full = before.waiting == 64;
+    let all = u64::from(receiver.occupied.count_ones()) == receiver.count();
+    match seen.answer() {
+        0 if foreign => {
+            hit("delivery: queued");
+            let misleading = sender.act == before.id;
+            hit_if(hit, misleading, "delivery: queued, the sender's activity runs there");
+            hit_if(hit, before.waiting == 0, "delivery: queued where none waits");
+            hit_if(hit, before.waiting == 63, "delivery: queued as the 64th request");
+            let behind = before.oldest + before.waiting;
+            hit_if(hit, behind == 63, "delivery: queued at place 63");
+            hit_if(hit, behind > 63, "delivery: queued behind place 63");
+            hit_if(hit, tile == c.tile, "delivery: queued at the own tile");
+        }
+        0 => {
+            hit("delivery: counted");
+            hit_if(hit, before.count == 65_535, "delivery: the count goes from 65535 to 0");
+            hit_if(hit, full, "delivery: counted while the queue is full");
+            let misleading = sender.act != before.id;
+            hit_if(hit, misleading, "delivery: counted, from another activity");
+        }
+        7 if foreign && full && all => hit("delivery: queue and slots are full"),
+        7 if foreign && full => hit(match c.opcode {
+            opcode::SEND => "SEND: 7 for the queue alone",
+            _ => "REPLY: 7 for the queue alone",
+        }),
+        16 if foreign && full => hit("delivery: 16 while the queue is full"),
+        17 if foreign && full => hit("delivery: 17 while the queue is full"),
+        _ => {}
     }
 }
 
@@ -191,14 +360,14 @@ fn visit_command(seen: &Seen, c: &Command, hit: Hit) {
         3 => low_id.receive().is_some(),
         _ => false,
     };
-    let far = c.endpoint >= ENDPOINTS && answer != 101;
+    let far = c.endpoint >= ENDPOINTS;
     hit_if(hit, far && right_kind, "endpoint number right in its low bits only");
     let low_opcode = answer == 15 && (1..7).contains(&(c.opcode % 256));
     hit_if(hit, low_opcode, "opcode right in its low bits only");
     match (c.opcode, seen.endpoint(c.tile, c.endpoint)) {
         (opcode::SEND, Endpoint::Send(ep)) => visit_send(seen, c, &ep, hit),
         (opcode::REPLY, Endpoint::Receive(ep)) => visit_reply(seen, c, &ep, hit),
-        (opcode::FETCH, Endpoint::Receive(ep)) => visit_fetch(seen, &ep, hit),
+        (opcode::FETCH, Endpoint::Receive(ep)) => visit_fetch(seen, c, &ep, hit),
         (opcode::ACK_MSG, Endpoint::Receive(ep)) => visit_acknowledge(seen, c, &ep, hit),
         (opcode::READ, Endpoint::Memory(ep)) => visit_transfer(seen, c, &ep, hit),
         (opcode::WRITE, Endpoint::Memory(ep)) => visit_transfer(seen, c, &ep, hit),
@@ -278,6 +447,7 @@ fn visit_accepted_reply(seen: &Seen, c: &Command, ep: &Receive, sender: &Send, h
     let idx = c.arg0 >> ep.slot_size;
     hit_if(hit, ep.unread >> idx & 1 == 1, "REPLY: slot still unread");
     hit_if(hit, ep.occupied >> idx & 1 == 0, "REPLY: slot is free");
+    visit_counts_of_reply(seen, c, ep, sender, hit);
     let target = (u64::from(sender.tgt_tile), u64::from(sender.tgt_ep));
     hit_if(hit, target == (c.tile, c.endpoint), "REPLY: into its own endpoint");
     if sender.crd_ep == NO_ENDPOINT {
@@ -298,6 +468,32 @@ fn visit_accepted_reply(seen: &Seen, c: &Command, ep: &Receive, sender: &Send, h
     }
 }
 
+/// How an accepted REPLY changes the acting tile's count, once or twice.
+fn visit_counts_of_reply(seen: &Seen, c: &Command, ep: &Receive, sender: &Send, hit: Hit) {
+    let idx = c.arg0 >> ep.slot_size;
+    let before = seen.record(c.tile);
+    let unread = ep.unread >> idx & 1 == 1;
+    let (tile, id) = (u64::from(sender.tgt_tile), u64::from(sender.tgt_ep));
+    if (tile, id) == (c.tile, c.endpoint) {
+        let turns = before.count == 65_535 && !unread;
+        hit_if(hit, turns, "REPLY: lost, the count goes from 65535 to 0");
+        let next = find_slot(ep.occupied, ep.wpos, ep.slots, false);
+        hit_if(hit, next == Some(idx), "REPLY: into the free slot that it names");
+    }
+    if !unread {
+        return;
+    }
+    match seen.endpoint(tile, id) {
+        Endpoint::Receive(receiver) if tile == c.tile && receiver.act == before.id => {
+            hit("REPLY: unread, and counted at the own tile");
+        }
+        Endpoint::Receive(_) if tile == c.tile => {
+            hit("REPLY: unread, and queued at the own tile");
+        }
+        _ => hit_if(hit, before.count == 0, "REPLY: unread, the count goes from 0 to 65535"),
+    }
+}
+
 /// What SEND and REPLY share: the size and the address, and the delivery.
 fn visit_message(seen: &Seen, c: &Command, ep: &Send, hit: Hit) {
     let answer = seen.answer();
@@ -305,12 +501,15 @@ fn visit_message(seen: &Seen, c: &Command, ep: &Send, hit: Hit) {
     let passes = c.data_size.checked_add(HEADER).is_none();
     hit_if(hit, answer == 9 && passes, "message: 9 where DATA_SIZE + 32 passes 2^64");
     hit_if(hit, answer == 9 && ep.msg_sz < 5, "message: 9 where msg_sz is below 5");
+    let target = seen.endpoint(ep.tgt_tile.into(), ep.tgt_ep.into());
+    if let Endpoint::Receive(receiver) = target {
+        visit_arrival(seen, c, ep, &receiver, hit);
+    }
     if answer != 0 {
         return;
     }
     let at_limit = c.data_size + HEADER == 1 << ep.msg_sz;
     hit_if(hit, at_limit, "message: DATA_SIZE at the limit of msg_sz");
-    let target = seen.endpoint(ep.tgt_tile.into(), ep.tgt_ep.into());
     if let Endpoint::Receive(receiver) = target {
         visit_search(&receiver, hit);
         visit_bytes(seen, c, u64::from(ep.tgt_tile), &receiver, hit);
@@ -349,14 +548,19 @@ fn visit_bytes(seen: &Seen, c: &Command, tile: u64, receiver: &Receive, hit: Hit
     }
 }
 
-fn visit_fetch(seen: &Seen, ep: &Receive, hit: Hit) {
+fn visit_fetch(seen: &Seen, c: &Command, ep: &Receive, hit: Hit) {
     if seen.answer() != 0 {
         return;
     }
     let (rpos, count) = (u64::from(ep.rpos), ep.count());
+    let none_counted = seen.record(c.tile).count == 0;
     match find_slot(ep.unread, ep.rpos, ep.slots, true) {
-        None => hit("FETCH: nothing unread"),
+        None => {
+            hit("FETCH: nothing unread");
+            hit_if(hit, none_counted, "FETCH: nothing unread and a count of 0");
+        }
         Some(idx) => {
+            hit_if(hit, none_counted, "FETCH: the count goes from 0 to 65535");
             hit_if(hit, idx < rpos && rpos < count, "FETCH: the search goes round");
             hit_if(hit, rpos == count, "FETCH: rpos is 2^slots");
             hit_if(hit, idx == 31, "FETCH: slot 31");
@@ -382,7 +586,12 @@ fn visit_acknowledge(seen: &Seen, c: &Command, ep: &Receive, hit: Hit) {
     }
     let idx = c.arg0 >> ep.slot_size;
     hit_if(hit, ep.occupied >> idx & 1 == 0, "ACK_MSG: the slot is free");
-    hit_if(hit, ep.unread >> idx & 1 == 1, "ACK_MSG: the slot is unread");
+    let unread = ep.unread >> idx & 1 == 1;
+    hit_if(hit, unread, "ACK_MSG: the slot is unread");
+    let read = ep.occupied >> idx & 1 == 1 && !unread;
+    hit_if(hit, read, "ACK_MSG: the slot is read");
+    let turns = unread && seen.record(c.tile).count == 0;
+    hit_if(hit, turns, "ACK_MSG: the count goes from 0 to 65535");
     if !ep.has_reply_range() {
         hit("ACK_MSG: no reply range");
         return;
@@ -456,8 +665,9 @@ fn visit_bad_machine(seen: &Seen, hit: Hit) {
     let s = seen.sizes();
     let words = u128::from(s.tiles) * 192;
     let bytes = u128::from(s.tiles) * u128::from(s.memory);
-    let words_match = u128::from(s.words_len) == words && s.acts_len == s.tiles;
-    let match_all = words_match && u128::from(s.mem_len) == bytes;
+    let sharing_matches = u128::from(s.sharing_len) == u128::from(s.tiles) * 67;
+    let words_match = u128::from(s.words_len) == words;
+    let match_all = words_match && sharing_matches && u128::from(s.mem_len) == bytes;
     let tiles_hold = (1..=MAX_TILES).contains(&s.tiles);
     let memory_holds = model::memory_allowed(s.memory);
     let wrapped_words = words >> 64 != 0 && words as u64 == s.words_len;
@@ -475,18 +685,20 @@ fn visit_bad_machine(seen: &Seen, hit: Hit) {
         visit_lengths(s, hit);
         if match_all {
             visit_bad_table(seen, hit);
+            visit_bad_records(seen, hit);
         }
     }
 }
 
 fn visit_lengths(s: &Sizes, hit: Hit) {
-    let (words, acts, mem) = (WORDS_PER_TILE * s.tiles, s.tiles, s.memory * s.tiles);
+    let (words, mem) = (WORDS_PER_TILE * s.tiles, s.memory * s.tiles);
+    let sharing = SHARING_PER_TILE * s.tiles;
     hit_single(
         &[
             (s.words_len < words, "100: words too short"),
             (s.words_len > words, "100: words too long"),
-            (s.acts_len < acts, "100: acts too short"),
-            (s.acts_len > acts, "100: acts too long"),
+            (s.sharing_len < sharing, "100: sharing too short"),
+            (s.sharing_len > sharing, "100: sharing too long"),
             (s.mem_len < mem, "100: mem too short"),
             (s.mem_len > mem, "100: mem too long"),
         ],
@@ -503,6 +715,77 @@ fn visit_bad_table(seen: &Seen, hit: Hit) {
     let last = (s.tiles * ENDPOINTS - 1) as usize;
     hit_if(hit, bad == [last], "100: only the last endpoint of the last tile is bad");
     hit_if(hit, bad == [0], "100: only the first endpoint is bad");
+}
+
+/// Records that are refused for one fault in one of them, where the table is good.
+fn visit_bad_records(seen: &Seen, hit: Hit) {
+    let s = seen.sizes();
+    let mut table = seen.words[..s.words_len as usize].chunks_exact(3);
+    let records = seen.sharing[..s.sharing_len as usize].chunks_exact(67).enumerate();
+    let bad: Vec<(usize, Vec<&'static str>)> = records
+        .map(|(tile, record)| (tile, record_faults(record)))
+        .filter(|(_, faults)| !faults.is_empty())
+        .collect();
+    let good_table = table.all(|words| word_faults(words, s.memory).is_empty());
+    match &bad[..] {
+        [] if good_table => hit("100 where sizes, table and records are good"),
+        [(tile, faults)] if good_table => {
+            hit_if(hit, *tile == 0, "record: only that of the first tile is bad");
+            let last = *tile as u64 + 1 == s.tiles;
+            hit_if(hit, last, "record: only that of the last tile is bad");
+            if let [fault] = faults[..] {
+                hit(fault);
+                visit_bad_requests(&seen.sharing[tile * 67..][..67], hit);
+            }
+        }
+        _ => {}
+    }
+}
+
+/// Which of the requests that wait is the one that is none.
+fn visit_bad_requests(record: &[u64], hit: Hit) {
+    let waiting = requests(record);
+    let bad: Vec<usize> =
+        (0..waiting.len()).filter(|k| request_faults(waiting[*k]).len() == 1).collect();
+    if bad.len() == 1 && waiting.len() > 1 {
+        hit_if(hit, bad[0] == 0, "record: only the oldest request is bad");
+        hit_if(hit, bad[0] + 1 == waiting.len(), "record: only the newest request is bad");
+        hit_if(hit, bad[0] == 63, "record: only the 64th request is bad");
+    }
+}
+
+/// The requests that wait, the oldest first; none where the head is wrong.
+fn requests(record: &[u64]) -> Vec<u64> {
+    if record[1] > 63 || record[2] > 64 {
+        return Vec::new();
+    }
+    let mut places = record[3..67].to_vec();
+    places.rotate_left(record[1] as usize);
+    places.truncate(record[2] as usize);
+    places
+}
+
+fn request_faults(word: u64) -> Vec<&'static str> {
+    let faults = [
+        (word % 4 != 2, "record: a request of another type"),
+        (word % (1 << 18) / 4 > 63, "record: a request's endpoint is 64 or above"),
+        (word % (1 << 48) / (1 << 18) != 0, "record: a request with an unnamed bit"),
+    ];
+    faults.iter().filter(|(holds, _)| *holds).map(|(_, fault)| *fault).collect()
+}
+
+/// What is wrong with a sharing record: a second test, apart from the model's.
+pub fn record_faults(record: &[u64]) -> Vec<&'static str> {
+    let head = [
+        (record[0] > 0xFFFF_FFFF, "record: CUR_ACT above 32 bits"),
+        (record[1] > 63, "record: the oldest at 64 or above"),
+        (record[2] == 65, "record: 65 wait"),
+        (record[2] > 65, "record: far more than 64 wait"),
+    ];
+    let mut faults: Vec<&'static str> =
+        head.iter().filter(|(holds, _)| *holds).map(|(_, fault)| *fault).collect();
+    faults.extend(requests(record).into_iter().flat_map(request_faults));
+    faults
 }
 
 /// What is wrong with three words: a second test, apart from the model's.

@@ -3,12 +3,13 @@
 
 use crate::call::{Action, Call, Outcome};
 use crate::corners::{self, Seen, CORNERS};
+use crate::model::privileged;
 use std::collections::BTreeMap;
 use std::fmt::Write;
 
-/// The answers that document 01 gives to each command and host call. The wiring
+/// The answers that the documents give to each command and host call. The wiring
 /// check answers 1 for yes and 0 for no.
-pub const ANSWERS: [(&str, &[u32]); 13] = [
+pub const ANSWERS: [(&str, &[u32]); 18] = [
     ("IDLE", &[0, 100, 101]),
     ("SEND", &[0, 2, 3, 4, 5, 6, 7, 9, 10, 14, 16, 17, 19, 21, 22, 23, 100, 101]),
     ("REPLY", &[0, 2, 3, 4, 5, 6, 7, 8, 9, 12, 14, 16, 17, 18, 19, 21, 22, 23, 100, 101]),
@@ -22,6 +23,11 @@ pub const ANSWERS: [(&str, &[u32]); 13] = [
     ("wiring", &[0, 1, 100]),
     ("unpack", &[0, 100, 103]),
     ("pack", &[0, 100, 103]),
+    ("privileged idle", &[0, 100, 101]),
+    ("XCHG_ACT", &[0, 100, 101]),
+    ("other privileged", &[15, 100, 101]),
+    ("respond", &[0, 100, 101]),
+    ("waiting", &[0, 100, 101]),
 ];
 
 fn row_of(call: &Call) -> usize {
@@ -32,6 +38,11 @@ fn row_of(call: &Call) -> usize {
         Action::Wiring => 10,
         Action::Unpack { .. } => 11,
         Action::Pack { .. } => 12,
+        Action::Privileged { opcode: privileged::IDLE, .. } => 13,
+        Action::Privileged { opcode: privileged::XCHG_ACT, .. } => 14,
+        Action::Privileged { .. } => 15,
+        Action::Respond { .. } => 16,
+        Action::Waiting { .. } => 17,
     }
 }
 
@@ -43,11 +54,11 @@ pub struct Coverage {
 }
 
 impl Coverage {
-    /// Counts one call, given the words it was lent and what came back.
-    pub fn count(&mut self, call: &Call, words: &[u64], acts: &[u16], outcome: &Outcome) {
+    /// Counts one call, given the words and records it was lent and what came back.
+    pub fn count(&mut self, call: &Call, words: &[u64], sharing: &[u64], outcome: &Outcome) {
         self.calls += 1;
         *self.answers.entry((row_of(call), outcome.answer)).or_default() += 1;
-        let seen = Seen { call, words, acts, outcome };
+        let seen = Seen { call, words, sharing, outcome };
         let corners = &mut self.corners;
         corners::visit(&seen, &mut |corner| *corners.entry(corner).or_default() += 1);
     }
@@ -85,7 +96,7 @@ impl Coverage {
                 let count = self.answers.get(&(row, *answer)).copied().unwrap_or(0);
                 format!(" {}:{}", answer, count)
             });
-            let _ = writeln!(text, "  {:<13}{}", name, counts.collect::<String>());
+            let _ = writeln!(text, "  {:<17}{}", name, counts.collect::<String>());
         }
         text.push_str("corner, count\n");
         for corner in CORNERS {

@@ -222,6 +222,10 @@ impl Receive {
         Ok(idx)
     }
 
+    pub fn is_unread(&self, idx: u64) -> bool {
+        self.unread >> idx & 1 == 1
+    }
+
     pub fn without(self, idx: u64) -> Receive {
         let kept = !(1 << idx);
         Receive { occupied: self.occupied & kept, unread: self.unread & kept, ..self }

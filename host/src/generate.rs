@@ -4,9 +4,12 @@
 
 use crate::call::{Action, Call, Sizes, State};
 use crate::machines::{self, Place, World};
-use crate::model::{opcode, Command, Endpoint, Memory, Receive, ENDPOINTS, FIELDS, HEADER};
+use crate::model::{
+    opcode, privileged, Command, Endpoint, Memory, Receive, ENDPOINTS, FIELDS, HEADER,
+};
 use crate::model::{MAX_MEMORY, NO_ENDPOINT, PAGE, WORDS_PER_TILE};
 use crate::random::Random;
+use crate::sharing::{self, SHARING_PER_TILE};
 use crate::wrong::Wrong;
 
 /// A machine as it is at first, and the calls to make on it in turn.
@@ -39,6 +42,8 @@ struct Scene<'a> {
     random: &'a mut Random,
     world: &'a World,
     table: Vec<Endpoint>,
+    /// The activity that each tile runs.
+    acts: Vec<u16>,
 }
 
 /// A slot of a receive endpoint.
@@ -48,7 +53,8 @@ impl<'a> Scene<'a> {
     fn new(random: &'a mut Random, world: &'a World, state: &State) -> Scene<'a> {
         let places = (0..world.tiles).flat_map(|tile| (0..ENDPOINTS).map(move |id| (tile, id)));
         let table = places.map(|place| world.endpoint(state, place)).collect();
-        Scene { random, world, table }
+        let records = state.sharing.chunks_exact(SHARING_PER_TILE as usize);
+        Scene { random, world, table, acts: records.map(sharing::current).collect() }
     }
 
     /// The endpoints of the table in order, each with its place.
@@ -58,13 +64,16 @@ impl<'a> Scene<'a> {
     }
 
     fn call(&mut self) -> Call {
-        let action = match self.random.weighted(&[74, 7, 3, 6, 5, 5]) {
+        let action = match self.random.weighted(&[67, 6, 3, 5, 4, 4, 5, 4, 2]) {
             0 => Action::Command(self.command()),
             1 => self.configure(),
             2 => Action::Invalidate { tile: self.tile(), endpoint: self.any_id() },
             3 => Action::Wiring,
             4 => self.unpack(),
-            _ => self.pack(),
+            5 => self.pack(),
+            6 => self.privileged(),
+            7 => Action::Respond { tile: self.tile() },
+            _ => self.waiting(),
         };
         Call { sizes: self.sizes(), action }
     }
@@ -105,13 +114,16 @@ impl<'a> Scene<'a> {
     /// One slice shorter, or longer where there is more to lend.
     fn odd_length(&mut self, right: Sizes) -> Sizes {
         let state = &self.world.state;
-        let (words, acts) = (state.words.len() as u64, state.acts.len() as u64);
+        let (words, sharing) = (state.words.len() as u64, state.sharing.len() as u64);
         match self.random.below(3) {
             0 => Sizes {
                 words_len: self.other_length(right.words_len, words, WORDS_PER_TILE),
                 ..right
             },
-            1 => Sizes { acts_len: self.other_length(right.acts_len, acts, 1), ..right },
+            1 => Sizes {
+                sharing_len: self.other_length(right.sharing_len, sharing, SHARING_PER_TILE),
+                ..right
+            },
             _ => {
                 let mem = state.mem.len() as u64;
                 Sizes { mem_len: self.other_length(right.mem_len, mem, PAGE), ..right }
@@ -145,12 +157,12 @@ impl<'a> Scene<'a> {
             tiles,
             memory,
             words_len: WORDS_PER_TILE * tiles,
-            acts_len: tiles,
+            sharing_len: SHARING_PER_TILE * tiles,
             mem_len: memory * tiles,
         };
         let state = &self.world.state;
         let fits = sizes.words_len <= state.words.len() as u64
-            && sizes.acts_len <= state.acts.len() as u64
+            && sizes.sharing_len <= state.sharing.len() as u64
             && sizes.mem_len <= state.mem.len() as u64;
         if fits {
             sizes
@@ -195,6 +207,11 @@ impl<'a> Scene<'a> {
         if chosen.is_empty() {
             chosen = some(self, &possible);
         }
+        let usable: Vec<Place> =
+            chosen.iter().filter(|place| self.is_own(**place)).copied().collect();
+        if !usable.is_empty() && self.random.chance(60) {
+            chosen = usable;
+        }
         if chosen.is_empty() || self.random.chance(4) {
             let tile = self.tile();
             return (tile, self.any_id());
@@ -212,6 +229,17 @@ impl<'a> Scene<'a> {
             return Endpoint::Invalid;
         }
         self.table[(tile * ENDPOINTS + id) as usize]
+    }
+
+    /// Whether an endpoint belongs to the activity that its tile runs.
+    fn is_own(&self, place: Place) -> bool {
+        let own = self.acts[place.0 as usize];
+        match self.endpoint(place) {
+            Endpoint::Invalid => false,
+            Endpoint::Send(ep) => ep.act == own,
+            Endpoint::Receive(ep) => ep.act == own,
+            Endpoint::Memory(ep) => ep.act == own,
+        }
     }
 
     /// The slots, of all receive endpoints, that `wanted` chooses.
@@ -357,6 +385,10 @@ impl<'a> Scene<'a> {
     /// endpoint and an arg0 that names the slot.
     fn slot(&mut self, given: Vec<Slot>, percent: u64) -> (u64, u64, u64) {
         if !given.is_empty() && self.random.chance(percent) {
+            let usable: Vec<Slot> =
+                given.iter().filter(|(place, _, _)| self.is_own(*place)).copied().collect();
+            let only_usable = !usable.is_empty() && self.random.chance(60);
+            let given = if only_usable { usable } else { given };
             let ((tile, id), ep, idx) = self.random.pick(&given);
             let inside = self.random.pick(&[0, 0, 0, 1, ep.slot_bytes() - 1]);
             return (tile, id, (idx << ep.slot_size) + inside);
@@ -469,6 +501,36 @@ impl<'a> Scene<'a> {
                 words
             }
         }
+    }
+
+    /// Mostly XCHG_ACT, to an activity that has endpoints on the tile.
+    fn privileged(&mut self) -> Action {
+        let unknown = [1, 2, 3, 5, 6, 255, 256 + 4, (1 << 32) + 4, u64::MAX];
+        let opcode = match self.random.weighted(&[70, 10, 20]) {
+            0 => privileged::XCHG_ACT,
+            1 => privileged::IDLE,
+            _ => self.random.pick(&unknown),
+        };
+        let tile = self.tile();
+        let known: Vec<u16> = (0..ENDPOINTS)
+            .filter_map(|id| self.endpoint((tile, id)).receive())
+            .map(|ep| ep.act)
+            .collect();
+        let any = self.random.number() as u16;
+        let id = match self.random.weighted(&[70, 20, 10]) {
+            0 if !known.is_empty() => self.random.pick(&known),
+            2 => any,
+            _ => self.random.pick(&machines::OTHER_ACTS),
+        };
+        let word = u64::from(machines::any_count(self.random)) << 16 | u64::from(id);
+        let high = self.random.number() << 32;
+        let arg0 = word | self.random.pick(&[0, 0, high, 1 << 32, u64::MAX << 32]);
+        Action::Privileged { tile, opcode, arg0, arg1: self.any_number() }
+    }
+
+    fn waiting(&mut self) -> Action {
+        let length = self.list_length(3);
+        Action::Waiting { tile: self.tile(), list: self.junk(length) }
     }
 
     fn configure(&mut self) -> Action {

@@ -1,6 +1,7 @@
 //! Tests of the TCU library from outside.
 //!
-//! `model` is a second, independent reading of the rules in document 01.
+//! `model` is a second, independent reading of the rules in document 01 and, for
+//! several activities on a tile, of request T-01 in document 02.
 //! `generate` makes machines and calls, `wire` has them run by a child process
 //! that links the library, `compare` holds the two against each other after
 //! every call, and `coverage` counts which answers and corners were reached.
@@ -15,5 +16,6 @@ pub mod machines;
 pub mod model;
 pub mod random;
 pub mod report;
+pub mod sharing;
 pub mod wire;
 pub mod wrong;

@@ -4,6 +4,7 @@ use crate::call::{Sizes, State};
 use crate::model::{find_slot, Endpoint, Memory, Receive, Send};
 use crate::model::{ENDPOINTS, NO_ENDPOINT, PAGE, UNLIMITED, WORDS_PER_TILE};
 use crate::random::Random;
+use crate::sharing::{self, Request, QUEUE, SHARING_PER_TILE};
 
 /// A machine with the sizes it is meant to have. Its state may be longer than
 /// these sizes ask, so that a call can also be lent too much.
@@ -11,7 +12,12 @@ pub struct World {
     pub tiles: u64,
     pub memory: u64,
     pub state: State,
+    /// How many endpoints in a hundred belong to the activity that runs.
+    own: u64,
 }
+
+/// Activities that a tile may have besides the one that runs.
+pub const OTHER_ACTS: [u16; 5] = [0, 1, 5, 7, 65_535];
 
 /// A place in a table: tile and endpoint.
 pub type Place = (u64, u64);
@@ -36,10 +42,10 @@ impl World {
         }
         let mut mem = vec![0; all_memory as usize];
         random.fill(&mut mem);
-        let any_act = [random.number() as u16, 0, 1, 5, 65_535];
-        let acts = (0..all_tiles).map(|_| random.pick(&any_act)).collect();
+        let sharing = (0..all_tiles).flat_map(|_| any_record(random)).collect();
         let words = vec![0; (WORDS_PER_TILE * all_tiles) as usize];
-        World { tiles, memory, state: State { words, acts, mem } }
+        let own = random.pick(&[93, 93, 60]);
+        World { tiles, memory, state: State { words, sharing, mem }, own }
     }
 
     pub fn sizes(&self) -> Sizes {
@@ -47,7 +53,7 @@ impl World {
             tiles: self.tiles,
             memory: self.memory,
             words_len: WORDS_PER_TILE * self.tiles,
-            acts_len: self.tiles,
+            sharing_len: SHARING_PER_TILE * self.tiles,
             mem_len: self.memory * self.tiles,
         }
     }
@@ -74,11 +80,16 @@ impl World {
 
     /// The tile's own activity id, or now and then another one.
     fn act(&self, random: &mut Random, tile: u64) -> u16 {
-        if random.chance(93) {
-            self.state.acts[tile as usize]
+        if random.chance(self.own) {
+            self.current(tile)
         } else {
-            random.pick(&[0, 1, 5, 7, 65_535])
+            random.pick(&OTHER_ACTS)
         }
+    }
+
+    /// The id of the activity that a tile runs at first.
+    fn current(&self, tile: u64) -> u16 {
+        sharing::current(&self.state.sharing[record_index(tile)..])
     }
 
     fn tile(&self, random: &mut Random) -> u64 {
@@ -88,6 +99,81 @@ impl World {
 
 fn word_index((tile, id): Place) -> usize {
     (tile * WORDS_PER_TILE + id * 3) as usize
+}
+
+fn record_index(tile: u64) -> usize {
+    (tile * SHARING_PER_TILE) as usize
+}
+
+// ---------------------------------------------------------------- Sharing records
+
+pub fn any_count(random: &mut Random) -> u16 {
+    let any = random.number() as u16;
+    random.pick(&[0, 0, 1, 2, 65_534, 65_535, 65_535, any])
+}
+
+fn any_request(random: &mut Random) -> u64 {
+    let endpoints = [0, 63, random.below(ENDPOINTS) as u8];
+    let acts = [0, 1, 5, 65_535, random.number() as u16];
+    let (endpoint, act) = (random.pick(&endpoints), random.pick(&acts));
+    Request { endpoint, act }.word()
+}
+
+/// An acceptable record: often without a request, often full or nearly so, the
+/// oldest anywhere, and anything at all in the places where none waits.
+fn any_record(random: &mut Random) -> Vec<u64> {
+    let any_id = [0, 1, 5, 65_535, random.number() as u16];
+    let any_place = [0, 0, 1, 62, 63, random.below(QUEUE)];
+    let mut record = vec![0; SHARING_PER_TILE as usize];
+    record[sharing::CUR_ACT] = u64::from(any_count(random)) << 16;
+    record[sharing::CUR_ACT] |= u64::from(random.pick(&any_id));
+    record[sharing::OLDEST] = random.pick(&any_place);
+    record[sharing::WAITING] = match random.weighted(&[46, 10, 14, 8, 10, 12]) {
+        0 => 0,
+        1 => 1,
+        2 => random.between(2, QUEUE - 3),
+        3 => QUEUE - 2,
+        4 => QUEUE - 1,
+        _ => QUEUE,
+    };
+    let rest = random.below(3);
+    for k in 0..QUEUE {
+        let place = sharing::place(&record, k);
+        record[place] = match rest {
+            _ if k < record[sharing::WAITING] => any_request(random),
+            0 => 0,
+            1 => any_request(random),
+            _ => random.number(),
+        };
+    }
+    record
+}
+
+/// Makes an acceptable record one that is not, with one fault.
+fn break_record(random: &mut Random, record: &mut [u64]) {
+    let bit = |random: &mut Random, low: u64, high: u64| 1 << random.between(low, high);
+    let fault = random.below(7);
+    if fault >= 3 && record[sharing::WAITING] == 0 {
+        let first = sharing::place(record, 0);
+        record[first] = any_request(random);
+        record[sharing::WAITING] = 1;
+    }
+    let last = record[sharing::WAITING].saturating_sub(1);
+    let waiting = [0, last, last, random.below(last + 1)];
+    let request = sharing::place(record, random.pick(&waiting));
+    match fault {
+        0 => record[sharing::CUR_ACT] |= bit(random, 32, 63),
+        1 => record[sharing::OLDEST] = random.pick(&[64, 65, 127, 1 << 32, 1 << 63, u64::MAX]),
+        2 => {
+            for place in &mut record[3..] {
+                *place = any_request(random);
+            }
+            record[sharing::WAITING] = random.pick(&[65, 66, 128, 1 << 32, u64::MAX]);
+        }
+        3 | 4 => record[request] = record[request] & !3 | random.pick(&[0, 1, 3]),
+        5 => record[request] |= bit(random, 8, 17),
+        _ => record[request] |= bit(random, 18, 47),
+    }
 }
 
 // ---------------------------------------------------------------- Single endpoints
@@ -459,7 +545,7 @@ fn place_replies(random: &mut Random, world: &mut World, (tile, id): Place, rece
 /// reply endpoint that aims here names itself for the credit.
 fn tie_knot(random: &mut Random, world: &mut World, (tile, id): Place) {
     let mut ep = any_receive(random, world, tile);
-    ep.act = world.state.acts[tile as usize];
+    ep.act = world.current(tile);
     ep.rpl_eps = random.below(ENDPOINTS - ep.count() + 1) as u16;
     let free = find_slot(ep.occupied, ep.wpos, ep.slots, false).unwrap_or(0);
     let next = u64::from(ep.rpl_eps) + free;
@@ -472,7 +558,10 @@ fn tie_knot(random: &mut Random, world: &mut World, (tile, id): Place) {
             world.put((tile, random.below(ENDPOINTS)), Endpoint::Send(sender));
         }
         1 => {
-            ep.occupied |= 1 << free;
+            // Where the slot stays free, the reply comes into the slot it frees.
+            if random.chance(60) {
+                ep.occupied |= 1 << free;
+            }
             let own = Send { reply: true, crd_ep: next as u16, ..sender };
             world.put((tile, next), Endpoint::Send(own));
         }
@@ -594,6 +683,15 @@ fn damage(random: &mut Random, world: &mut World) {
     }
 }
 
+/// Damages one sharing record, often that of the last tile.
+fn damage_record(random: &mut Random, world: &mut World) {
+    let last = world.tiles - 1;
+    let tiles = [0, last, last, world.tile(random)];
+    let start = record_index(random.pick(&tiles));
+    let record = &mut world.state.sharing[start..start + SHARING_PER_TILE as usize];
+    break_record(random, record);
+}
+
 /// A machine and how much is worth doing with it.
 pub struct Plan {
     pub world: World,
@@ -613,7 +711,11 @@ pub fn any_plan(random: &mut Random) -> Plan {
         2 => Plan { world: wild(random), calls: random.between(15, 45), wiring_first: false },
         _ => {
             let mut world = if random.chance(50) { sound(random) } else { wild(random) };
-            damage(random, &mut world);
+            if random.chance(60) {
+                damage(random, &mut world);
+            } else {
+                damage_record(random, &mut world);
+            }
             Plan { world, calls: random.between(2, 7), wiring_first: false }
         }
     }

@@ -1,13 +1,15 @@
 //! The rules of the TCU reference machine as document 01 has them, in the order of
-//! its sentences. Everything works on slices that the host lends.
+//! its sentences, and those of request T-01 of document 02. Everything works on
+//! slices that the host lends.
 //! Sums of free 64-bit numbers are taken in 128 bits, so none of them wraps.
 //!
-//! `endpoint.rs` has the endpoints' words and fields. A field `wrong` can switch on
-//! one wrong reading (see `wrong.rs`); with `Wrong::Nothing` the model is the
-//! document.
+//! `endpoint.rs` has the endpoints' words and fields, `sharing.rs` the sharing
+//! records. A field `wrong` can switch on one wrong reading (see `wrong.rs`); with
+//! `Wrong::Nothing` the model is the document.
 
 pub use crate::endpoint::{acceptable, pack, unpack};
 pub use crate::endpoint::{Endpoint, Memory, Receive, Send, FIELDS};
+use crate::sharing::{self, Request, SHARING_PER_TILE};
 use crate::wrong::Wrong;
 
 // ---------------------------------------------------------------- Sizes
@@ -123,7 +125,7 @@ pub struct Machine<'a> {
     pub tiles: u64,
     pub memory: u64,
     pub words: &'a mut [u64],
-    pub acts: &'a [u16],
+    pub sharing: &'a mut [u64],
     pub mem: &'a mut [u8],
     pub wrong: Wrong,
 }
@@ -136,6 +138,12 @@ pub mod opcode {
     pub const WRITE: u64 = 4;
     pub const FETCH: u64 = 5;
     pub const ACK_MSG: u64 = 6;
+}
+
+/// The opcodes of privileged commands.
+pub mod privileged {
+    pub const IDLE: u64 = 0;
+    pub const XCHG_ACT: u64 = 4;
 }
 
 /// The permission bits of a memory endpoint.
@@ -154,9 +162,10 @@ pub struct Command {
 }
 
 impl Machine<'_> {
-    /// BAD_MACHINE: a size is broken or the table is not good.
+    /// BAD_MACHINE: a size is broken, or the table or a sharing record is not good.
     fn check(&self) -> Checked<()> {
-        demand(self.sizes_hold() && self.table_is_good(), Answer::BadMachine)
+        let right = self.sizes_hold() && self.table_is_good() && self.records_are_good();
+        demand(right, Answer::BadMachine)
     }
 
     /// The first two tests come first so that the products below cannot wrap.
@@ -164,7 +173,7 @@ impl Machine<'_> {
         (1..=MAX_TILES).contains(&self.tiles)
             && memory_allowed(self.memory)
             && self.words.len() as u64 == WORDS_PER_TILE * self.tiles
-            && self.acts.len() as u64 == self.tiles
+            && self.sharing.len() as u64 == SHARING_PER_TILE * self.tiles
             && self.mem.len() as u64 == self.memory * self.tiles
     }
 
@@ -174,6 +183,26 @@ impl Machine<'_> {
             return numbered.all(|(id, words)| id % 64 == 63 || acceptable(words, self.memory));
         }
         self.words.chunks_exact(3).all(|words| acceptable(words, self.memory))
+    }
+
+    fn records_are_good(&self) -> bool {
+        let mut records = self.sharing.chunks_exact(SHARING_PER_TILE as usize);
+        match self.wrong {
+            Wrong::SkipLastRecord => records.take(self.tiles as usize - 1).all(sharing::acceptable),
+            Wrong::FreePlacesTested => records.all(|record| {
+                let all_places = &record[3..];
+                let requests = all_places.iter().all(|word| Request::read(*word).is_some());
+                sharing::acceptable(record) && requests
+            }),
+            Wrong::OnlyOldestTested => records.all(|record| {
+                let mut shortened = record.to_vec();
+                if record[sharing::WAITING] <= sharing::QUEUE {
+                    shortened[sharing::WAITING] = record[sharing::WAITING].min(1);
+                }
+                sharing::acceptable(&shortened)
+            }),
+            _ => records.all(sharing::acceptable),
+        }
     }
 
     /// An endpoint number of 64 or more reads as INVALID.
@@ -198,9 +227,20 @@ impl Machine<'_> {
         self.write_words(tile, id, endpoint.words());
     }
 
-    /// The acting tile's activity id.
+    /// The sharing record of a tile.
+    fn record(&self, tile: u64) -> &[u64] {
+        let start = (tile * SHARING_PER_TILE) as usize;
+        &self.sharing[start..start + SHARING_PER_TILE as usize]
+    }
+
+    fn record_mut(&mut self, tile: u64) -> &mut [u64] {
+        let start = (tile * SHARING_PER_TILE) as usize;
+        &mut self.sharing[start..start + SHARING_PER_TILE as usize]
+    }
+
+    /// The acting tile's activity id: the one in CUR_ACT.
     fn own(&self, tile: u64) -> u16 {
-        self.acts[tile as usize]
+        sharing::current(self.record(tile))
     }
 
     /// The place in the lent memory of an address within a tile.
@@ -235,9 +275,88 @@ impl Machine<'_> {
     }
 
     fn check_place(&self, tile: u64, endpoint: u64) -> Checked<()> {
-        self.check()?;
-        demand(tile < self.tiles, Answer::NoSuchTile)?;
+        self.check_tile(tile)?;
         demand(endpoint < ENDPOINTS, Answer::BadEp)
+    }
+
+    fn check_tile(&self, tile: u64) -> Checked<()> {
+        self.check()?;
+        demand(tile < self.tiles, Answer::NoSuchTile)
+    }
+
+    /// A response from the tile takes its oldest request away; where none waits,
+    /// nothing changes.
+    pub fn respond(&mut self, tile: u64) -> Answer {
+        if let Err(refusal) = self.check_tile(tile) {
+            return refusal;
+        }
+        let wrong = self.wrong;
+        let record = self.record_mut(tile);
+        match wrong {
+            Wrong::LastInFirstOut => {
+                record[sharing::WAITING] = record[sharing::WAITING].saturating_sub(1);
+            }
+            Wrong::ResponseWraps if record[sharing::WAITING] == 0 => {
+                record[sharing::OLDEST] = (record[sharing::OLDEST] + 1) % sharing::QUEUE;
+                record[sharing::WAITING] = sharing::QUEUE - 1;
+            }
+            Wrong::FreedPlaceCleared if record[sharing::WAITING] != 0 => {
+                let freed = sharing::place(record, 0);
+                record[freed] = 0;
+                sharing::dequeue(record);
+            }
+            _ => sharing::dequeue(record),
+        }
+        Answer::None
+    }
+
+    /// How many requests wait at a tile, and the endpoint and activity of the
+    /// oldest. The length of the list is tested first.
+    pub fn waiting(&self, tile: u64, list: &mut [u64]) -> Answer {
+        let right_length = list.len() == 3;
+        if !right_length && self.wrong != Wrong::WaitingTileFirst {
+            return Answer::BadMachine;
+        }
+        if let Err(refusal) = self.check_tile(tile) {
+            return refusal;
+        }
+        if !right_length {
+            return Answer::BadMachine;
+        }
+        let record = self.record(tile);
+        list.copy_from_slice(&match sharing::oldest(record) {
+            None => [0; 3],
+            Some(request) => {
+                [record[sharing::WAITING], request.endpoint.into(), request.act.into()]
+            }
+        });
+        Answer::None
+    }
+
+    /// A privileged command: the answer, and its second argument afterwards.
+    pub fn privileged(&mut self, tile: u64, op: u64, arg0: u64, arg1: u64) -> (Answer, u64) {
+        if let Err(refusal) = self.check_tile(tile) {
+            return (refusal, arg1);
+        }
+        match op {
+            privileged::IDLE => (Answer::None, arg1),
+            privileged::XCHG_ACT => (Answer::None, self.exchange(tile, arg0)),
+            _ => (Answer::UnknownCmd, arg1),
+        }
+    }
+
+    /// Hands back the old word of CUR_ACT and sets it from arg0's low 32 bits.
+    fn exchange(&mut self, tile: u64, arg0: u64) -> u64 {
+        let wrong = self.wrong;
+        let word = &mut self.record_mut(tile)[sharing::CUR_ACT];
+        let old = *word;
+        *word = match wrong {
+            Wrong::ExchangeForgetsCount => arg0 & 0xFFFF,
+            Wrong::ExchangeKeepsCount => old & 0xFFFF_0000 | arg0 & 0xFFFF,
+            Wrong::ExchangeAllBits => arg0,
+            _ => arg0 & 0xFFFF_FFFF,
+        };
+        old
     }
 
     // ------------------------------------------------------------ Commands
@@ -251,8 +370,7 @@ impl Machine<'_> {
     }
 
     fn checked_command(&mut self, call: &Command) -> Checked<u64> {
-        self.check()?;
-        demand(call.tile < self.tiles, Answer::NoSuchTile)?;
+        self.check_tile(call.tile)?;
         match call.opcode {
             opcode::IDLE => Ok(call.arg1),
             opcode::SEND => self.send(call).map(|()| call.arg1),
@@ -395,6 +513,14 @@ impl Machine<'_> {
             label: reply_ep.label,
         };
         self.deliver(&message, &reply_ep, call)?;
+        let unread = match self.wrong {
+            Wrong::UnreadAfterDelivery => self.endpoint(call.tile, call.endpoint).receive(),
+            Wrong::ReplyTakesNone => None,
+            _ => Some(ep),
+        };
+        if unread.map_or(false, |ep| ep.is_unread(idx)) {
+            self.take_unread(call.tile);
+        }
         self.write_endpoint(call.tile, reply_id, Endpoint::Invalid);
         self.free_slot(call, ep, idx);
         Ok(())
@@ -416,9 +542,15 @@ impl Machine<'_> {
         let ep = self.endpoint(call.tile, call.endpoint).receive().ok_or(Answer::NoRep)?;
         demand(ep.act == self.own(call.tile), Answer::ForeignEp)?;
         let idx = match self.search(ep.unread, ep.rpos, ep.slots, true) {
-            None => return Ok(u64::MAX),
+            None => {
+                if self.wrong == Wrong::EmptyFetchCounts {
+                    self.take_unread(call.tile);
+                }
+                return Ok(u64::MAX);
+            }
             Some(idx) => idx,
         };
+        self.take_unread(call.tile);
         let fetched = Receive { unread: ep.unread & !(1 << idx), rpos: idx as u8 + 1, ..ep };
         self.write_endpoint(call.tile, call.endpoint, Endpoint::Receive(fetched));
         Ok(idx << ep.slot_size)
@@ -429,6 +561,9 @@ impl Machine<'_> {
         demand(!ep.range_past_end(), Answer::RecvInvRplEps)?;
         demand(ep.act == self.own(call.tile), Answer::ForeignEp)?;
         let idx = ep.slot_at(call.arg0)?;
+        if ep.is_unread(idx) || self.wrong == Wrong::AckOfReadCounts {
+            self.take_unread(call.tile);
+        }
         self.write_endpoint(call.tile, call.endpoint, Endpoint::Receive(ep.without(idx)));
         if ep.has_reply_range() {
             self.write_endpoint(call.tile, u64::from(ep.rpl_eps) + idx, Endpoint::Invalid);
@@ -459,10 +594,14 @@ impl Machine<'_> {
         let id = u64::from(sender.tgt_ep);
         demand(sender.tgt_chip == 0 && tile < self.tiles, Answer::TimeoutNoc)?;
         let ep = self.endpoint(tile, id).receive().ok_or(Answer::RecvGone)?;
+        if self.wrong == Wrong::QueueTestedFirst {
+            self.room_for_request(tile, &ep)?;
+        }
         demand(HEADER + message.length <= ep.slot_bytes(), Answer::RecvOutOfBounds)?;
         demand(!ep.range_past_end(), Answer::RecvInvRplEps)?;
         let free = self.search(ep.occupied, ep.wpos, ep.slots, false);
         let idx = free.ok_or(Answer::RecvNoSpace)?;
+        self.room_for_request(tile, &ep)?;
 
         let filled = Receive {
             occupied: ep.occupied | 1 << idx,
@@ -479,7 +618,54 @@ impl Machine<'_> {
             let reply_ep = reply_endpoint(message, &ep);
             self.write_endpoint(tile, u64::from(ep.rpl_eps) + idx, Endpoint::Send(reply_ep));
         }
+        let lost = message.is_reply && (tile, id) == (call.tile, call.endpoint);
+        if !(lost && self.wrong == Wrong::LostReplyNotCounted) {
+            let act = if self.wrong == Wrong::SendersActivity { sender.act } else { ep.act };
+            self.arrive(tile, id, ep.act, act == self.own(tile), call.tile);
+        }
         Ok(())
+    }
+
+    /// A message for another activity needs a place for its request.
+    fn room_for_request(&self, tile: u64, receiver: &Receive) -> Checked<()> {
+        let foreign = receiver.act != self.own(tile);
+        let full = sharing::is_full(self.record(tile)) && self.wrong != Wrong::QueueOf65;
+        demand(!(foreign && full), Answer::RecvNoSpace)
+    }
+
+    /// A message came into an endpoint: the current activity has one more unread
+    /// message; for another activity a request is queued.
+    fn arrive(&mut self, tile: u64, id: u64, act: u16, is_current: bool, sending_tile: u64) {
+        if is_current {
+            let counting = match self.wrong {
+                Wrong::CountAtSender => sending_tile,
+                _ => tile,
+            };
+            self.change_count(counting, 1);
+            return;
+        }
+        if self.wrong == Wrong::ForeignCounted {
+            self.change_count(tile, 1);
+        }
+        sharing::enqueue(self.record_mut(tile), Request { endpoint: id as u8, act });
+    }
+
+    /// One unread message of the acting tile was fetched, answered or acknowledged.
+    fn take_unread(&mut self, tile: u64) {
+        self.change_count(tile, -1);
+    }
+
+    /// The count is modulo 65,536.
+    fn change_count(&mut self, tile: u64, by: i16) {
+        let wrong = self.wrong;
+        let record = self.record_mut(tile);
+        let count = sharing::count(record);
+        let changed = match wrong {
+            Wrong::CountDoesNotWrap if by < 0 => count.saturating_sub(1),
+            Wrong::CountDoesNotWrap => count.saturating_add(1),
+            _ => count.wrapping_add(by as u16),
+        };
+        sharing::set_count(record, changed);
     }
 
     /// The payload goes first: the header may be stored over its old place.

@@ -3,6 +3,7 @@
 use crate::call::{Action, Call, Outcome, State};
 use crate::compare::Difference;
 use crate::model::{acceptable, Endpoint};
+use crate::sharing::{self, SHARING_PER_TILE};
 use crate::wire::FAULTS;
 use std::fmt::Write;
 
@@ -13,8 +14,8 @@ const SHOWN: usize = 12;
 pub fn describe_call(call: &Call) -> String {
     let s = &call.sizes;
     let sizes = format!(
-        "tiles {} memory {} words_len {} acts_len {} mem_len {}",
-        s.tiles, s.memory, s.words_len, s.acts_len, s.mem_len
+        "tiles {} memory {} words_len {} sharing_len {} mem_len {}",
+        s.tiles, s.memory, s.words_len, s.sharing_len, s.mem_len
     );
     let action = match &call.action {
         Action::Command(c) => format!(
@@ -26,6 +27,16 @@ pub fn describe_call(call: &Call) -> String {
         }
         Action::Invalidate { tile, endpoint } => {
             format!("tcu_invalidate: tile {} endpoint {}", tile, endpoint)
+        }
+        Action::Privileged { tile, opcode, arg0, arg1 } => {
+            format!(
+                "tcu_privileged: tile {} opcode {} arg0 {:#x} arg1 {}",
+                tile, opcode, arg0, arg1
+            )
+        }
+        Action::Respond { tile } => format!("tcu_respond: tile {}", tile),
+        Action::Waiting { tile, list } => {
+            format!("tcu_waiting: tile {} waiting_len {}", tile, list.len())
         }
         Action::Wiring => "tcu_wiring".to_string(),
         Action::Unpack { words, fields } => {
@@ -64,7 +75,9 @@ pub fn describe(difference: &Difference) -> String {
         }
     }
     describe_words(&mut text, d);
+    describe_sharing(&mut text, d);
     describe_bytes(&mut text, d);
+    describe_records(&mut text, &d.lent);
     describe_table(&mut text, &d.lent, &d.call);
     text
 }
@@ -87,6 +100,20 @@ fn describe_words(text: &mut String, d: &Difference) {
     }
 }
 
+fn describe_sharing(text: &mut String, d: &Difference) {
+    let expected = d.expected_state.sharing.iter();
+    let pairs = expected.zip(&d.reported_state.sharing).enumerate();
+    for (place, (wanted, got)) in pairs.filter(|(_, (wanted, got))| wanted != got).take(SHOWN) {
+        let (tile, word) = (place / SHARING_PER_TILE as usize, place % SHARING_PER_TILE as usize);
+        let before = d.lent.sharing[place];
+        let _ = writeln!(
+            text,
+            "sharing word {} of tile {}: before {:#x} expected {:#x} got {:#x}",
+            word, tile, before, wanted, got
+        );
+    }
+}
+
 fn describe_bytes(text: &mut String, d: &Difference) {
     let expected = d.expected_state.mem.iter();
     let pairs = expected.zip(&d.reported_state.mem).enumerate();
@@ -96,8 +123,25 @@ fn describe_bytes(text: &mut String, d: &Difference) {
     }
 }
 
+fn describe_records(text: &mut String, lent: &State) {
+    for (tile, record) in lent.sharing.chunks_exact(SHARING_PER_TILE as usize).enumerate() {
+        let (id, count) = (sharing::current(record), sharing::count(record));
+        let good = if sharing::acceptable(record) { "" } else { ", not acceptable" };
+        let _ = writeln!(
+            text,
+            "lent: tile {} runs activity {}, {} unread, {} wait, the oldest at {}{}",
+            tile,
+            id,
+            count,
+            record[sharing::WAITING],
+            record[sharing::OLDEST],
+            good
+        );
+    }
+}
+
 fn describe_table(text: &mut String, lent: &State, call: &Call) {
-    let _ = writeln!(text, "lent: acts {:?} and the endpoints", lent.acts);
+    let _ = writeln!(text, "lent: the endpoints");
     for (place, words) in lent.words.chunks_exact(3).enumerate() {
         if words == [0; 3] {
             continue;

@@ -1,18 +1,18 @@
 //! The line to a runner: a child process that makes the calls. A session goes
 //! out as one batch, and the runner answers with one reply for each call.
 //!
-//! Everything is 64-bit numbers, least byte first, but for the bytes of memory
-//! and the 16-bit activity ids. A batch is
+//! Everything is 64-bit numbers, least byte first, but for the bytes of memory.
+//! A batch is
 //!
-//!   mark, lengths of words, acts and mem, number of calls, bytes of all calls,
-//!   the words, the acts, the memory, the calls;
+//!   mark, lengths of words, sharing and mem, number of calls, bytes of all calls,
+//!   the words, the sharing records, the memory, the calls;
 //!
 //! a call is fifteen numbers (see `encode_call`) and the two lists of `tcu_pack`
-//! and `tcu_unpack`; a reply is
+//! and `tcu_unpack`, the first also that of `tcu_waiting`; a reply is
 //!
-//!   answer, ARG_1, faults, number of changed words, number of changed ranges,
-//!   each word as place and value, each range as place, length and bytes, and
-//!   the two lists as they are afterwards.
+//!   answer, ARG_1, faults, number of changed words, of changed words of sharing
+//!   records, and of changed ranges, each word as place and value, each range as
+//!   place, length and bytes, and the two lists as they are afterwards.
 //!
 //! The runner takes in a whole batch before it answers, so that neither side
 //! waits for the other to empty its pipe.
@@ -30,12 +30,12 @@ const MARK: u64 = u64::from_le_bytes(*b"tcubatch");
 /// What the runner found wrong besides the results, one bit each.
 pub const FAULTS: [&str; 10] = [
     "wrote beside words",
-    "wrote beside acts",
+    "wrote beside sharing",
     "wrote beside mem",
     "wrote beside fields",
     "wrote beside the packed words",
     "wrote beside arg1",
-    "wrote into acts",
+    "wrote into sharing that is only read",
     "wrote into words that are only read",
     "wrote into mem that is only read",
     "wrote into fields that are only read",
@@ -47,6 +47,7 @@ pub struct Reply {
     pub outcome: Outcome,
     pub faults: u64,
     pub words: Vec<(u64, u64)>,
+    pub sharing: Vec<(u64, u64)>,
     pub ranges: Vec<(u64, Vec<u8>)>,
 }
 
@@ -55,6 +56,9 @@ impl Reply {
     pub fn apply(&self, state: &mut State) {
         for (place, word) in &self.words {
             state.words[*place as usize] = *word;
+        }
+        for (place, word) in &self.sharing {
+            state.sharing[*place as usize] = *word;
         }
         for (place, bytes) in &self.ranges {
             let start = *place as usize;
@@ -97,6 +101,7 @@ fn bad_data(what: &str) -> io::Error {
 fn lists(call: &Call) -> (&[u64], &[u64]) {
     match &call.action {
         Action::Unpack { fields, .. } => (fields, &[]),
+        Action::Waiting { list, .. } => (list, &[]),
         Action::Pack { fields, words } => (fields, words),
         _ => (&[], &[]),
     }
@@ -117,9 +122,17 @@ fn encode_call(out: &mut Vec<u8>, call: &Call) {
             (4, 0, 0, [*first, *second, *third, 0, 0])
         }
         Action::Pack { .. } => (5, 0, 0, [0; 5]),
+        Action::Privileged { tile, opcode, arg0, arg1 } => {
+            (6, *tile, 0, [*opcode, *arg0, 0, 0, *arg1])
+        }
+        Action::Respond { tile } => (7, *tile, 0, [0; 5]),
+        Action::Waiting { tile, .. } => (8, *tile, 0, [0; 5]),
     };
     let s = &call.sizes;
-    put(out, &[function, s.tiles, s.memory, s.words_len, s.acts_len, s.mem_len, tile, endpoint]);
+    let lengths = [s.words_len, s.sharing_len, s.mem_len];
+    put(out, &[function, s.tiles, s.memory]);
+    put(out, &lengths);
+    put(out, &[tile, endpoint]);
     put(out, &numbers);
     let (fields, packed) = lists(call);
     put(out, &[fields.len() as u64, packed.len() as u64]);
@@ -148,13 +161,16 @@ fn decode_call(input: &mut impl Read) -> io::Result<Call> {
         3 => Action::Wiring,
         4 => Action::Unpack { words, fields },
         5 => Action::Pack { fields, words: packed },
+        6 => Action::Privileged { tile, opcode: head[8], arg0: head[9], arg1: head[12] },
+        7 => Action::Respond { tile },
+        8 => Action::Waiting { tile, list: fields },
         _ => return Err(bad_data("no such function")),
     };
     let sizes = Sizes {
         tiles: head[1],
         memory: head[2],
         words_len: head[3],
-        acts_len: head[4],
+        sharing_len: head[4],
         mem_len: head[5],
     };
     Ok(Call { sizes, action })
@@ -165,8 +181,9 @@ fn decode_call(input: &mut impl Read) -> io::Result<Call> {
 fn encode_reply(out: &mut Vec<u8>, reply: &Reply) {
     let outcome = &reply.outcome;
     put(out, &[u64::from(outcome.answer), outcome.arg1, reply.faults]);
-    put(out, &[reply.words.len() as u64, reply.ranges.len() as u64]);
-    for (place, word) in &reply.words {
+    let counts = [reply.words.len(), reply.sharing.len(), reply.ranges.len()];
+    put(out, &counts.map(|count| count as u64));
+    for (place, word) in reply.words.iter().chain(&reply.sharing) {
         put(out, &[*place, *word]);
     }
     for (place, bytes) in &reply.ranges {
@@ -177,16 +194,19 @@ fn encode_reply(out: &mut Vec<u8>, reply: &Reply) {
     put(out, &outcome.packed);
 }
 
+fn take_changes(input: &mut impl Read, count: u64) -> io::Result<Vec<(u64, u64)>> {
+    (0..count).map(|_| Ok((take(input)?, take(input)?))).collect()
+}
+
 fn decode_reply(input: &mut impl Read, call: &Call) -> io::Result<Reply> {
     let answer = take(input)?;
     let arg1 = take(input)?;
     let faults = take(input)?;
     let changed_words = take(input)?;
+    let changed_sharing = take(input)?;
     let changed_ranges = take(input)?;
-    let mut words = Vec::new();
-    for _ in 0..changed_words {
-        words.push((take(input)?, take(input)?));
-    }
+    let words = take_changes(input, changed_words)?;
+    let sharing = take_changes(input, changed_sharing)?;
     let mut ranges = Vec::new();
     for _ in 0..changed_ranges {
         let place = take(input)?;
@@ -197,7 +217,7 @@ fn decode_reply(input: &mut impl Read, call: &Call) -> io::Result<Reply> {
     let fields = take_list(input, fields.len() as u64)?;
     let packed = take_list(input, packed.len() as u64)?;
     let outcome = Outcome { answer: answer as u32, arg1, fields, packed };
-    Ok(Reply { outcome, faults, words, ranges })
+    Ok(Reply { outcome, faults, words, sharing, ranges })
 }
 
 // ---------------------------------------------------------------- Our end
@@ -246,14 +266,13 @@ fn encode_batch(state: &State, calls: &[Call]) -> Vec<u8> {
     for call in calls {
         encode_call(&mut encoded, call);
     }
-    let (words, acts, mem) = (state.words.len(), state.acts.len(), state.mem.len());
+    let (words, sharing, mem) = (state.words.len(), state.sharing.len(), state.mem.len());
     let bytes = encoded.len();
-    let mut out = Vec::with_capacity(words * 8 + acts * 2 + mem + bytes + 64);
-    put(&mut out, &[MARK, words as u64, acts as u64, mem as u64, calls.len() as u64, bytes as u64]);
+    let mut out = Vec::with_capacity((words + sharing) * 8 + mem + bytes + 64);
+    put(&mut out, &[MARK]);
+    put(&mut out, &[words, sharing, mem, calls.len(), bytes].map(|length| length as u64));
     put(&mut out, &state.words);
-    for act in &state.acts {
-        out.extend_from_slice(&act.to_le_bytes());
-    }
+    put(&mut out, &state.sharing);
     out.extend_from_slice(&state.mem);
     out.extend_from_slice(&encoded);
     out
@@ -285,21 +304,23 @@ pub fn serve(input: &mut impl Read, output: &mut impl Write) -> io::Result<()> {
 fn decode_batch(input: &mut impl Read) -> io::Result<(State, Vec<Call>)> {
     let head = take_list(input, 5)?;
     let words = take_list(input, head[0])?;
-    let acts = take_bytes(input, head[1] * 2)?;
-    let acts = acts.chunks(2).map(|pair| u16::from_le_bytes([pair[0], pair[1]])).collect();
+    let sharing = take_list(input, head[1])?;
     let mem = take_bytes(input, head[2])?;
     let encoded = take_bytes(input, head[4])?;
     let mut rest = &encoded[..];
     let calls: io::Result<Vec<Call>> = (0..head[3]).map(|_| decode_call(&mut rest)).collect();
-    Ok((State { words, acts, mem }, calls?))
+    Ok((State { words, sharing, mem }, calls?))
+}
+
+/// The words that differ, each with its place.
+fn changes(before: &[u64], after: &[u64]) -> Vec<(u64, u64)> {
+    let pairs = (0..).zip(before.iter().zip(after));
+    pairs.filter(|(_, (old, new))| old != new).map(|(place, (_, new))| (place, *new)).collect()
 }
 
 fn difference(before: &State, after: &State, outcome: Outcome) -> Reply {
-    let pairs = before.words.iter().zip(&after.words).enumerate();
-    let words = pairs
-        .filter(|(_, (old, new))| old != new)
-        .map(|(place, (_, new))| (place as u64, *new))
-        .collect();
+    let words = changes(&before.words, &after.words);
+    let sharing = changes(&before.sharing, &after.sharing);
     let changed = |place: &usize| before.mem[*place] != after.mem[*place];
     let mut ranges = Vec::new();
     if before.mem != after.mem {
@@ -307,5 +328,5 @@ fn difference(before: &State, after: &State, outcome: Outcome) -> Reply {
         let last = (0..after.mem.len()).rev().find(changed).unwrap_or(0);
         ranges.push((first as u64, after.mem[first..=last].to_vec()));
     }
-    Reply { outcome, faults: 0, words, ranges }
+    Reply { outcome, faults: 0, words, sharing, ranges }
 }

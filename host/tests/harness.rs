@@ -1,9 +1,10 @@
 //! Tests of the comparison itself, with the model on both ends of the line.
 
 use std::process::Command;
-use tcu_host::call::{Action, State};
+use tcu_host::call::{Action, Sizes, State};
 use tcu_host::generate::session;
-use tcu_host::model::{acceptable, opcode};
+use tcu_host::model::{acceptable, opcode, privileged};
+use tcu_host::sharing;
 use tcu_host::wrong::{Wrong, WRONG_RULES};
 
 fn compare(arguments: &[&str]) -> (bool, String) {
@@ -38,13 +39,14 @@ fn a_session_depends_on_seed_and_number_alone() {
     assert!(once.state != other.state);
 }
 
-fn table_is_good(state: &State, memory: u64, words: u64) -> bool {
-    let table = &state.words[..words as usize];
-    table.chunks_exact(3).all(|endpoint| acceptable(endpoint, memory))
+fn is_good(state: &State, sizes: &Sizes) -> bool {
+    let mut table = state.words[..sizes.words_len as usize].chunks_exact(3);
+    let mut records = state.sharing[..sizes.sharing_len as usize].chunks_exact(67);
+    table.all(|endpoint| acceptable(endpoint, sizes.memory)) && records.all(sharing::acceptable)
 }
 
 /// What holds of every call, whatever the rules say in detail: a refusal changes
-/// nothing, a good table stays good, only a FETCH changes ARG_1.
+/// nothing, good tables and records stay good, only FETCH and XCHG_ACT change ARG_1.
 #[test]
 fn the_model_keeps_its_general_promises() {
     for number in 0..400 {
@@ -55,13 +57,15 @@ fn the_model_keeps_its_general_promises() {
             let outcome = call.run(&mut state, Wrong::Nothing);
             let accepted = outcome.answer == 0 && call.action != Action::Wiring;
             assert!(accepted || state == before, "{:?}", call);
-            let (memory, words) = (call.sizes.memory, call.sizes.words_len);
-            let was_good = table_is_good(&before, memory, words);
-            assert!(!was_good || table_is_good(&state, memory, words), "{:?}", call);
-            if let Action::Command(command) = call.action {
-                let fetched = command.opcode == opcode::FETCH && outcome.answer == 0;
-                assert!(fetched || outcome.arg1 == command.arg1, "{:?}", command);
-            }
+            let was_good = is_good(&before, &call.sizes);
+            assert!(!was_good || is_good(&state, &call.sizes), "{:?}", call);
+            let (sets_arg1, given) = match call.action {
+                Action::Command(command) => (command.opcode == opcode::FETCH, command.arg1),
+                Action::Privileged { opcode, arg1, .. } => (opcode == privileged::XCHG_ACT, arg1),
+                _ => (false, 0),
+            };
+            let changes = sets_arg1 && outcome.answer == 0;
+            assert!(changes || outcome.arg1 == given, "{:?}", call);
         }
     }
 }

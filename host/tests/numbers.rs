@@ -1,8 +1,12 @@
-//! Document 01's "Numbers on both sides", held against the model.
+//! Document 01's "Numbers on both sides", held against the model, and the words of
+//! request T-01 in document 02.
 
 use tcu_host::call::{Sizes, State};
-use tcu_host::model::{self, find_slot, opcode, Command, Endpoint, Memory, Receive, Send};
+use tcu_host::model::{
+    self, find_slot, opcode, privileged, Command, Endpoint, Memory, Receive, Send,
+};
 use tcu_host::model::{NO_ENDPOINT, WORDS_PER_TILE};
+use tcu_host::sharing::{self, SHARING_PER_TILE};
 use tcu_host::wrong::Wrong;
 
 const ACT: u16 = 5;
@@ -19,15 +23,19 @@ impl Bench {
             tiles,
             memory,
             words_len: WORDS_PER_TILE * tiles,
-            acts_len: tiles,
+            sharing_len: SHARING_PER_TILE * tiles,
             mem_len: memory * tiles,
         };
         let state = State {
             words: vec![0; sizes.words_len as usize],
-            acts: vec![ACT; tiles as usize],
+            sharing: vec![0; sizes.sharing_len as usize],
             mem: vec![0; sizes.mem_len as usize],
         };
-        Bench { sizes, state }
+        let mut bench = Bench { sizes, state };
+        for tile in 0..tiles {
+            bench.exchange(tile, ACT.into());
+        }
+        bench
     }
 
     fn configure(&mut self, tile: u64, id: u64, endpoint: Endpoint) {
@@ -37,6 +45,32 @@ impl Bench {
 
     fn endpoint(&mut self, tile: u64, id: u64) -> Endpoint {
         self.state.machine(&self.sizes, Wrong::Nothing).endpoint(tile, id)
+    }
+
+    /// XCHG_ACT: the old word.
+    fn exchange(&mut self, tile: u64, word: u64) -> u64 {
+        let mut machine = self.state.machine(&self.sizes, Wrong::Nothing);
+        let (answer, old) = machine.privileged(tile, privileged::XCHG_ACT, word, 1);
+        assert_eq!(answer, model::Answer::None);
+        old
+    }
+
+    fn respond(&mut self, tile: u64) {
+        let mut machine = self.state.machine(&self.sizes, Wrong::Nothing);
+        assert_eq!(machine.respond(tile), model::Answer::None);
+    }
+
+    /// How many requests wait, and the endpoint and activity of the oldest.
+    fn waiting(&mut self, tile: u64) -> [u64; 3] {
+        let mut list = [9; 3];
+        let machine = self.state.machine(&self.sizes, Wrong::Nothing);
+        assert_eq!(machine.waiting(tile, &mut list), model::Answer::None);
+        list
+    }
+
+    /// Word `place` of a tile's sharing record.
+    fn word(&mut self, tile: u64, place: u64) -> &mut u64 {
+        &mut self.state.sharing[(tile * SHARING_PER_TILE + place) as usize]
     }
 
     fn command(&mut self, command: Command) -> (u32, u64) {
@@ -219,4 +253,121 @@ fn the_header() {
 
     let reply = Send { reply: true, crd_ep: 4, label: 77, ..send(0, 6, 1, 6) };
     assert_eq!(bench.endpoint(1, 20), Endpoint::Send(reply));
+}
+
+// ---------------------------------------------------------------- Several activities
+
+/// A machine of two tiles: endpoint 4 of tile 0 sends, without end, to endpoint 7
+/// of tile 1, which belongs to activity `act` and has 32 slots.
+fn shared(act: u16) -> Bench {
+    let mut bench = Bench::new(2, 4096);
+    bench.configure(0, 4, Endpoint::Send(send(1, 7, 63, 5)));
+    let receiver = Receive { act, ..receive(5, 5, 1024, NO_ENDPOINT) };
+    bench.configure(1, 7, Endpoint::Receive(receiver));
+    bench
+}
+
+fn message() -> Command {
+    command(0, opcode::SEND, 4, 65_535, 0, 0)
+}
+
+#[test]
+fn cur_act_has_id_and_count() {
+    let mut bench = shared(ACT);
+    bench.exchange(1, 0xFFFF_0005);
+    assert_eq!(bench.command(message()).0, 0);
+    assert_eq!(*bench.word(1, 0), 5, "65535 and one is 0");
+    assert_eq!(bench.command(command(1, opcode::FETCH, 7, 0, 0, 0)), (0, 0));
+    assert_eq!(*bench.word(1, 0), 0xFFFF_0005, "0 less one is 65535");
+    assert_eq!(bench.command(command(1, opcode::FETCH, 7, 0, 0, 0)), (0, u64::MAX));
+    assert_eq!(bench.command(command(1, opcode::ACK_MSG, 7, 0, 0, 0)).0, 0);
+    assert_eq!(*bench.word(1, 0), 0xFFFF_0005, "nothing unread was there");
+    assert_eq!(bench.exchange(1, 0xABCD_0003_0006), 0xFFFF_0005);
+    assert_eq!(*bench.word(1, 0), 0x0003_0006);
+    assert_eq!(bench.command(command(1, opcode::FETCH, 7, 0, 0, 0)).0, 4);
+}
+
+#[test]
+fn foreign_messages_queue_in_order() {
+    let mut bench = shared(6);
+    *bench.word(1, 1) = 63;
+    bench.configure(1, 8, Endpoint::Receive(Receive { act: 9, ..receive(0, 5, 0, NO_ENDPOINT) }));
+    bench.configure(0, 5, Endpoint::Send(send(1, 8, 1, 5)));
+    assert_eq!(bench.waiting(1), [0, 0, 0]);
+    assert_eq!(bench.command(message()).0, 0);
+    assert_eq!(bench.command(Command { endpoint: 5, ..message() }).0, 0);
+    assert_eq!(*bench.word(1, 66), 2 | 7 << 2 | 6 << 48);
+    assert_eq!(*bench.word(1, 3), 2 | 8 << 2 | 9 << 48);
+    assert_eq!(*bench.word(1, 0), 5, "not counted");
+    assert_eq!(bench.waiting(1), [2, 7, 6]);
+    bench.respond(1);
+    assert_eq!(bench.waiting(1), [1, 8, 9]);
+    bench.respond(1);
+    assert_eq!(bench.waiting(1), [0, 0, 0]);
+    bench.respond(1);
+    assert_eq!((*bench.word(1, 1), *bench.word(1, 2)), (1, 0));
+}
+
+/// 64 requests wait: the next message for another activity is refused and changes
+/// nothing, one for the activity that runs is not, and a response makes room.
+#[test]
+fn the_queue_holds_64() {
+    let mut bench = shared(6);
+    for _ in 0..2 {
+        for _ in 0..32 {
+            assert_eq!(bench.command(message()).0, 0);
+        }
+        assert_eq!(bench.command(message()).0, 7, "the buffer is full");
+        let empty = Receive { act: 6, ..receive(5, 5, 1024, NO_ENDPOINT) };
+        bench.configure(1, 7, Endpoint::Receive(empty));
+    }
+    assert_eq!(bench.waiting(1), [64, 7, 6]);
+    let before = bench.state.clone();
+    assert_eq!(bench.command(message()).0, 7);
+    assert!(bench.state == before);
+    bench.exchange(1, 6);
+    assert_eq!(bench.command(message()).0, 0);
+    assert_eq!(*bench.word(1, 0), 0x0001_0006);
+    bench.exchange(1, 5);
+    assert_eq!(bench.command(message()).0, 7);
+    bench.respond(1);
+    assert_eq!(bench.command(message()).0, 0);
+    assert_eq!((*bench.word(1, 1), *bench.word(1, 2)), (1, 64));
+}
+
+/// A reply into its own endpoint is lost and still counted; the slot it names was
+/// not unread, so nothing is taken away.
+#[test]
+fn a_lost_reply_is_counted() {
+    let mut bench = Bench::new(1, 4096);
+    let receiver = Receive { occupied: 1, ..receive(1, 5, 0, 20) };
+    bench.configure(0, 7, Endpoint::Receive(receiver));
+    let reply_ep = Send { reply: true, crd_ep: NO_ENDPOINT, ..send(0, 7, 1, 5) };
+    bench.configure(0, 20, Endpoint::Send(reply_ep));
+    assert_eq!(bench.command(command(0, opcode::REPLY, 7, 0, 0, 0)).0, 0);
+    assert_eq!(bench.endpoint(0, 7), Endpoint::Receive(Receive { occupied: 0, ..receiver }));
+    assert_eq!(*bench.word(0, 0), 0x0001_0005);
+}
+
+#[test]
+fn records_that_are_refused() {
+    let good = {
+        let mut record = vec![u64::MAX; SHARING_PER_TILE as usize];
+        record[..3].copy_from_slice(&[0xFFFF_FFFF, 63, 2]);
+        record[66] = 2 | 63 << 2 | 0xFFFF << 48;
+        record[3] = 2;
+        record
+    };
+    assert!(sharing::acceptable(&good));
+    assert!(sharing::acceptable(&vec![0; SHARING_PER_TILE as usize]));
+    let with = |place: usize, word: u64| {
+        let mut record = good.clone();
+        record[place] = word;
+        sharing::acceptable(&record)
+    };
+    assert!(!with(0, 1 << 32), "CUR_ACT above 32 bits");
+    assert!(!with(1, 64) && !with(2, 3) && !with(2, 65), "the oldest, and how many wait");
+    assert!(!with(3, 0) && !with(3, 1) && !with(3, 3), "another type");
+    assert!(!with(66, 2 | 64 << 2) && !with(3, 2 | 1 << 17), "no such endpoint");
+    assert!(!with(66, 2 | 1 << 18) && !with(3, 2 | 1 << 47), "an unnamed bit");
 }

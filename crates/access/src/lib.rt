@@ -16,6 +16,7 @@ use command::Completion;
 use command::Registers;
 use endpoint::Endpoint;
 use endpoint::MemoryFields;
+use sharing::Note;
 
 // The endpoint is the own one, and the permission is not missing.
 fn permit_checks(own: u16, missing: bool, m: MemoryFields) -> Answer
@@ -120,6 +121,7 @@ pub fn read(
         return Completion {
             answer: Answer::None,
             arg1: a.arg1,
+            note: Note::Nothing,
         };
     }
     let from = remote_at(b, m, a.arg1);
@@ -128,6 +130,7 @@ pub fn read(
     Completion {
         answer: Answer::None,
         arg1: a.arg1,
+        note: Note::Nothing,
     }
 }
 
@@ -155,6 +158,7 @@ pub fn write(
         return Completion {
             answer: Answer::None,
             arg1: a.arg1,
+            note: Note::Nothing,
         };
     }
     let from = command::local_at(b, tile, a);
@@ -163,5 +167,6 @@ pub fn write(
     Completion {
         answer: Answer::None,
         arg1: a.arg1,
+        note: Note::Nothing,
     }
 }

@@ -37,18 +37,18 @@ unfolding startOf sizeOf bytesOf
 tile-inside b tile h = rw (← suc-mul tile (b .memory)) (mul-le-mul-right (b .memory) h)
 
 -- what the host lent is as long as the board asks
-pub record Right (b : Board) (words acts bytes : ℕ) : Type 0 where
+pub record Right (b : Board) (words sharing bytes : ℕ) : Type 0 where
   pub board : allowed b ≡ true
   pub words-right : words ≡ b .tiles * 192
-  pub acts-right : acts ≡ b .tiles
+  pub sharing-right : sharing ≡ b .tiles * 67
   pub bytes-right : bytes ≡ bytesOf b
 
-pub right : (b : Board) (words acts bytes : ℕ) → sizesRight b words acts bytes ≡ true → Right b words acts bytes
+pub right : (b : Board) (words sharing bytes : ℕ) → sizesRight b words sharing bytes ≡ true → Right b words sharing bytes
 unfolding sizesRight
-right b words acts bytes h =
-    let p = split-and (allowed b) (all (lengthRules b words acts bytes)) h in
-    let q = all-true (lengthRules b words acts bytes) (p .1) in
-    record { board = p .0; words-right = q .0; acts-right = q .1 .0; bytes-right = q .1 .1 .0 }
+right b words sharing bytes h =
+    let p = split-and (allowed b) (all (lengthRules b words sharing bytes)) h in
+    let q = all-true (lengthRules b words sharing bytes) (p .1) in
+    record { board = p .0; words-right = q .0; sharing-right = q .1 .0; bytes-right = q .1 .1 .0 }
 
 -- and so does each address of it: with room for size bytes from address x on, they end within the lent bytes
 pub range-inside : (b : Board) (tile x size : ℕ) → tile < b .tiles → x + size ≤ sizeOf b tile → startOf b tile + x + size ≤ bytesOf b

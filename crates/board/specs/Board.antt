@@ -31,9 +31,9 @@ sizeOf b tile = b .memory
 unfoldable pub bytesOf : Board → ℕ
 bytesOf b = b .tiles * b .memory
 
--- Lent by the host: 192 words, one activity id and M bytes per tile, exactly.
+-- Lent by the host: 192 words, a sharing record of 67 words and M bytes per tile, exactly.
 abbrev pub lengthRules : Board → ℕ → ℕ → ℕ → List Test
-lengthRules b words acts bytes = equal words (b .tiles * 192) ∷ equal acts (b .tiles) ∷ equal bytes (bytesOf b) ∷ []
+lengthRules b words sharing bytes = equal words (b .tiles * 192) ∷ equal sharing (b .tiles * 67) ∷ equal bytes (bytesOf b) ∷ []
 
 unfoldable pub sizesRight : Board → ℕ → ℕ → ℕ → Bool
-sizesRight b words acts bytes = allowed b && all (lengthRules b words acts bytes)
+sizesRight b words sharing bytes = allowed b && all (lengthRules b words sharing bytes)

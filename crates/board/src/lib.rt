@@ -40,12 +40,12 @@ pub fn size(b: Board, tile: u64) -> u64
 }
 
 // Is the board allowed, and is what the host lent exactly as long as it asks?
-pub fn sizes_right(b: Board, words: usize, acts: usize, bytes: usize) -> bool
-    ensures { λ r. ⌜ r ≡ sizesRight b words acts bytes ⌝ }
+pub fn sizes_right(b: Board, words: usize, sharing: usize, bytes: usize) -> bool
+    ensures { λ r. ⌜ r ≡ sizesRight b words sharing bytes ⌝ }
 {
     if !board_allowed(b) {
         return false;
     }
     (words as u64 == b.tiles * 192)
-        & ((acts as u64 == b.tiles) & (bytes as u64 == b.tiles * b.memory))
+        & ((sharing as u64 == b.tiles * 67) & (bytes as u64 == b.tiles * b.memory))
 }

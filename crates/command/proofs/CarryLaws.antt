@@ -21,10 +21,11 @@ use Rattle.endpoint.specs.declared.SendFields.{SendFields}
 use Rattle.endpoint.specs.declared.ReceiveFields.{ReceiveFields}
 use Rattle.endpoint.specs.declared.MemoryFields.{MemoryFields}
 use Rattle.endpoint.proofs.Endpoint as endpoint-type
+use Rattle.sharing.specs.declared.Note.{Note}
 use Rattle.table.specs.Table.{stored}
 use Rattle.command.specs.Checks.{Check, _⇒_, first, _then_, _fails_else_}
-use Rattle.command.specs.Command.{Write, _⇐_to_, Put, nothing, bytesTo, Effect, Command, does, _▸_, _▸▸_, send_or_gives_, receive_or_gives_, memory_or_gives_, slot_or_gives_, slot_else_gives_}
-use Rattle.command.specs.Outcome.{outcome, completes, written, placed, settled}
+use Rattle.command.specs.Command.{Write, _⇐_to_, Put, nothing, bytesTo, Effect, Command, does, _noting_, _▸_, _▸▸_, send_or_gives_, receive_or_gives_, memory_or_gives_, slot_or_gives_, slot_else_gives_}
+use Rattle.command.specs.Outcome.{outcome, finishes, written, placed, settled}
 use Rattle.command.specs.declared.Completion.{Completion}
 use Rattle.command.proofs.CheckLaws.{stop-with, pass-group, refused, not-is-true, not-is-false, yes-send, no-send, yes-receive, no-receive, yes-memory, no-memory}
 
@@ -102,16 +103,20 @@ module _ {X : Type 0} (f : Error → X) (g : Effect → X) (o : X) where
   leaves false k h e z = z
 
   -- ---- the end
-  pub ends : (l : List Write) (p : Put) (x : ℕ) → o ≡ g (record { writes = l; puts = p; hands = x }) → o ≡ settled f g (does l p x)
+  pub ends : (l : List Write) (p : Put) (x : ℕ) → o ≡ g (record { writes = l; puts = p; hands = x; notes = Note.Nothing }) → o ≡ settled f g (does l p x)
   unfolding settled does first _fails_else_
   ends l p x h = h
+
+  pub ends-noting : (l : List Write) (p : Put) (x : ℕ) (n : Note) → o ≡ g (record { writes = l; puts = p; hands = x; notes = n }) → o ≡ settled f g (does l p x noting n)
+  unfolding settled does _noting_ first _fails_else_
+  ends-noting l p x n h = h
 
 -- ---- what was written and put, one after another
 pub same-outcome : (r s : Completion) (us vs bs cs : List ℕ) → r ≡ s → us ≡ vs → bs ≡ cs → outcome r us bs ≡ outcome s vs cs
 same-outcome r s us vs bs cs j h i = rw (j, h, i)
 
-pub handed : (n : Answer) (x y : ℕ) → x ≡ y → completes n x ≡ completes n y
-handed n x y h = ap (completes n) h
+pub handed : (x y : ℕ) (m n : Note) → x ≡ y → m ≡ n → finishes x m ≡ finishes y n
+handed x y m n h i = rw (h, i)
 
 pub kept : (us ws : List ℕ) → us ≡ ws → us ≡ written ws []
 unfolding written
@@ -146,7 +151,7 @@ pub put-there : (cs bs : List ℕ) (p : ℕ) (l : List ℕ) → cs ≡ put bs p 
 unfolding placed
 put-there cs bs p l h = h
 
-pub ruleset carry = (halt, go-on, halt-group, go-on-group, takes-send, lacks-send, takes-receive, lacks-receive, takes-memory, lacks-memory, takes-slot, lacks-slot, takes-found, lacks-found, takes, leaves, ends, same-outcome, handed, kept, wrote, wrote-group, spared, bare, put-there)
+pub ruleset carry = (halt, go-on, halt-group, go-on-group, takes-send, lacks-send, takes-receive, lacks-receive, takes-memory, lacks-memory, takes-slot, lacks-slot, takes-found, lacks-found, takes, leaves, ends, ends-noting, same-outcome, handed, kept, wrote, wrote-group, spared, bare, put-there)
 
 -- where each write is a function's: without `wrote`, which would try to do the writes by itself
 pub ruleset one-by-one = (wrote-one, kept)

@@ -3,6 +3,7 @@
 use mathlib.Core.Path.{_≡_, refl, sym, ap, _∙_}
 use mathlib.Core.Bool.{Bool, true, false, cond, not}
 use mathlib.Core.List.{List, [], _∷_}
+use mathlib.Core.Logic.{_⊎_, inl, inr}
 use Prim.Native.Nat.{ℕ, zero, suc}
 use native.Mathlib.Omega.{arith}
 use lib.Dec.{T, T-not, eqb, eqb-refl}
@@ -82,3 +83,16 @@ stopped e [] h k t = absurd (never-is e [] tt h)
 stopped e ((false ⇒ d) ∷ l) h zero t = absurd (never-is e l t h)
 stopped e ((true ⇒ d) ∷ l) h zero t = refl
 stopped e ((b ⇒ d) ∷ l) h (suc k) t = let s = skip b d e (first l) (only e l k) t h in stopped e l (s .1) k (s .2)
+
+-- one of the two checks k and k + 1 has failed, where no other gives e
+abbrev pub only-two : Error → List Check → ℕ → Bool
+only-two e [] k = true
+only-two e ((b ⇒ d) ∷ l) zero = only e l zero
+only-two e ((b ⇒ d) ∷ l) (suc k) = cond (same d e) false (only-two e l k)
+
+pub stopped-at-two : (e : Error) (l : List Check) → first l ≡ Refused e → (k : ℕ) → T (only-two e l k) → (nth l k ≡ true) ⊎ (nth l (suc k) ≡ true)
+unfolding first
+stopped-at-two e [] h k t = absurd (never-is e [] tt h)
+stopped-at-two e ((false ⇒ d) ∷ l) h zero t = inr (stopped e l h zero t)
+stopped-at-two e ((true ⇒ d) ∷ l) h zero t = inl refl
+stopped-at-two e ((b ⇒ d) ∷ l) h (suc k) t = let s = skip b d e (first l) (only-two e l k) t h in stopped-at-two e l (s .1) k (s .2)

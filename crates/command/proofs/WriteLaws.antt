@@ -18,7 +18,7 @@ use Rattle.table.specs.Good.{memoryAt, goodTable}
 use Rattle.table.proofs.TableLaws.{length-stored, view-stored, good-stored}
 use Rattle.command.specs.Checks.{first, _fails_else_}
 use Rattle.command.specs.Command.{Write, _⇐_to_, Put, nothing, bytesTo, Effect, Command}
-use Rattle.command.specs.Outcome.{outcome, completes, written, tabled, placed, settled, carried}
+use Rattle.command.specs.Outcome.{outcome, completes, finishes, written, tabled, placed, settled, carried}
 
 -- ---- a list of writes
 -- the place is one of the board's, and the endpoint is acceptable there
@@ -83,7 +83,7 @@ module _ (x : ℕ) (ws bs : List ℕ) (k : Command) where
   unfolding carried
   carried-refused e h = settled-refused _ _ k e h
 
-  pub carried-accepted : first (k .checks) ≡ None → carried x ws bs k ≡ outcome (completes None (k .effect .hands)) (written ws (k .effect .writes)) (placed bs (k .effect .puts))
+  pub carried-accepted : first (k .checks) ≡ None → carried x ws bs k ≡ outcome (finishes (k .effect .hands) (k .effect .notes)) (written ws (k .effect .writes)) (placed bs (k .effect .puts))
   unfolding carried
   carried-accepted h = settled-accepted _ _ k h
 

@@ -1,5 +1,5 @@
--- A command is data: its checks in order; the endpoints that it writes, in order; at most one run of bytes that it puts; and
--- the ARG_1 that it hands back. Every value that is written was read at the start.
+-- A command is data: its checks in order; the endpoints that it writes, in order; at most one run of bytes that it puts; the ARG_1
+-- that it hands back; and what it notes in the sharing records. Every value that is written was read at the start.
 use Prim.Native.Nat.{ℕ}
 use mathlib.Core.Bool.{Bool, true, false, not}
 use mathlib.Core.List.{List, [], _∷_}
@@ -11,6 +11,7 @@ use Rattle.endpoint.specs.declared.Endpoint.{Endpoint}
 use Rattle.endpoint.specs.declared.SendFields.{SendFields}
 use Rattle.endpoint.specs.declared.ReceiveFields.{ReceiveFields}
 use Rattle.endpoint.specs.declared.MemoryFields.{MemoryFields}
+use Rattle.sharing.specs.declared.Note.{Note}
 use Rattle.command.specs.Checks.{Check, _⇒_, _then_}
 
 -- endpoint e at place q, where the test holds
@@ -28,6 +29,7 @@ pub record Effect : Type 0 where
   pub writes : List Write
   pub puts : Put
   pub hands : ℕ
+  pub notes : Note
 
 pub record Command : Type 0 where
   pub checks : List Check
@@ -36,7 +38,12 @@ pub record Command : Type 0 where
 -- ---- how a command is written down
 -- the end: what is done where no check holds
 unfoldable pub does : List Write → Put → ℕ → Command
-does l p x = record { checks = []; effect = record { writes = l; puts = p; hands = x } }
+does l p x = record { checks = []; effect = record { writes = l; puts = p; hands = x; notes = Note.Nothing } }
+
+-- and what it notes
+infixl 61 _noting_
+unfoldable pub _noting_ : Command → Note → Command
+_noting_ k n = record { checks = k .checks; effect = record { writes = k .effect .writes; puts = k .effect .puts; hands = k .effect .hands; notes = n } }
 
 -- a check, and a list of them, before the rest
 infixr 60 _▸_

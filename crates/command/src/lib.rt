@@ -10,6 +10,7 @@ ghost use Rattle.command.specs.Outcome.{completes};
 use answers::Answer;
 use answers::Error;
 use board::Board;
+use sharing::Note;
 
 // The registers of a command besides its opcode and endpoint. Each may be any 64-bit number.
 pub struct Registers {
@@ -19,19 +20,21 @@ pub struct Registers {
     pub arg1: u64,
 }
 
-// What a command comes back with: the answer, and ARG_1 afterwards.
+// What a command comes back with: the answer, ARG_1 afterwards, and what is noted in the sharing records.
 pub struct Completion {
     pub answer: Answer,
     pub arg1: u64,
+    pub note: Note,
 }
 
-// A refusal: ARG_1 comes back as given.
+// A refusal: ARG_1 comes back as given, and nothing is noted.
 pub fn refuse(e: Error, arg1: u64) -> Completion
     ensures { λ r. ⌜ r ≡ completes (Refused e) arg1 ⌝ }
 {
     Completion {
         answer: Answer::Refused(e),
         arg1,
+        note: Note::Nothing,
     }
 }
 

@@ -1,6 +1,7 @@
 -- Delivery: chip not 0 or tile absent 21; not RECEIVE 6; 32 + length above 2^slot_size 16; a reply range past 64 17; the first free
--- slot from wpos, going round, none 7, and 7 never otherwise. The slot becomes occupied and unread, wpos is idx + 1, header and
--- payload go to buffer + idx times 2^slot_size.
+-- slot from wpos, going round, none 7. The slot becomes occupied and unread, wpos is idx + 1, header and payload go to buffer + idx
+-- times 2^slot_size. Document 02, T-01: a foreign delivery with 64 requests waiting answers 7 too, after the slot search; 7 never
+-- otherwise. What came is noted at the receiver's tile.
 -- It knows nothing of credits to be taken: SEND and REPLY say what else is written.
 use Prim.Native.Nat.{ℕ, _+_, _*_, _%_, _^_}
 use mathlib.Core.Bool.{Bool, true, not}
@@ -15,9 +16,11 @@ use Rattle.endpoint.specs.declared.SendFields.{SendFields}
 use Rattle.endpoint.specs.declared.ReceiveFields.{ReceiveFields}
 use Rattle.endpoint.specs.declared.Endpoint.the-variants.{Receive}
 use Rattle.table.specs.Table.{Table, place, endpointAt}
+use Rattle.sharing.specs.Sharing.{crowded}
+use Rattle.sharing.specs.declared.Arrival.{Arrival}
 use Rattle.slots.specs.Slots.{freeSlot, rangeBad, filled}
 use Rattle.command.specs.Checks.{Check, _⇒_}
-use Rattle.command.specs.Command.{Command, Write, _⇐_to_, Put, bytesTo, _▸▸_, receive_or_gives_, slot_or_gives_}
+use Rattle.command.specs.Command.{Command, Write, _⇐_to_, Put, bytesTo, _▸_, _▸▸_, receive_or_gives_, slot_or_gives_}
 use Rattle.command.specs.Local.{crossesPage, localAt}
 use Rattle.command.specs.declared.Registers.{Registers}
 use Rattle.delivery.specs.Header.{headerBytes}
@@ -52,17 +55,22 @@ fitChecks r a =
     ∷ []
 
 -- the rest is over the receiver's record and the slot
-unfoldable pub delivered : Board → Table → SendFields → Registers → (ReceiveFields → ℕ → Command) → Command
-delivered b t s a rest =
+unfoldable pub delivered : Board → Table → List ℕ → SendFields → Registers → (ReceiveFields → ℕ → Command) → Command
+delivered b t sh s a rest =
     farChecks b s ▸▸
     receive endpointAt t (s .«tgt_tile») (s .«tgt_ep») or RecvGone gives λ r.
     fitChecks r a ▸▸
     slot freeSlot r or RecvNoSpace gives λ i.
+    crowded sh (s .«tgt_tile») (r .act) ⇒ RecvNoSpace ▸
     rest r i
 
 -- the message comes into slot i of the receiver r
 unfoldable pub arrival : SendFields → ReceiveFields → ℕ → Write
 arrival s r i = true ⇐ Receive (filled r i) to place (s .«tgt_tile») (s .«tgt_ep»)
+
+-- what is noted of it: the tile and endpoint that it came to, and the receiver's activity
+unfoldable pub arrivalOf : SendFields → ReceiveFields → Arrival
+arrivalOf s r = record { tile = s .«tgt_tile»; ep = s .«tgt_ep»; act = r .act }
 
 -- where that slot lies among the bytes of all tiles
 unfoldable pub slotAt : Board → SendFields → ReceiveFields → ℕ → ℕ

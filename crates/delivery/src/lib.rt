@@ -8,12 +8,13 @@ ghost use Rattle.numbers.specs.Tests.{All};
 ghost use Rattle.board.specs.Board.{allowed, startOf, sizeOf, bytesOf};
 ghost use Rattle.endpoint.specs.Layout.{fit};
 ghost use Rattle.table.specs.Table.{view};
+ghost use Rattle.sharing.specs.Sharing.{Inside, Shared};
 ghost use Rattle.slots.specs.Slots.{Usable};
 ghost use Rattle.command.specs.Checks.{first};
 ghost use Rattle.command.specs.Checked.{Checked};
 ghost use Rattle.command.specs.Outcome.{written, placed};
 ghost use Rattle.delivery.specs.Header.{headerFields, headerWord};
-ghost use Rattle.delivery.specs.Delivery.{tooLong, messageChecks, farChecks, fitChecks, arrival, messageTo, slotAt};
+ghost use Rattle.delivery.specs.Delivery.{tooLong, messageChecks, farChecks, fitChecks, arrival, arrivalOf, messageTo, slotAt};
 ghost use Rattle.delivery.specs.Target.{receiverTarget, targetOf};
 ghost use Rattle.delivery.specs.Stowing.{SlotIn, Stowed};
 use answers::Answer;
@@ -24,6 +25,7 @@ use command::Registers;
 use endpoint::Endpoint;
 use endpoint::ReceiveFields;
 use endpoint::SendFields;
+use sharing::Arrival;
 
 // The header of a message; `specs/Header.antt` says where each field lies.
 pub struct Header {
@@ -99,25 +101,35 @@ fn fit_checks(r: ReceiveFields, a: Registers) -> Answer
     Answer::None
 }
 
-// The slot of a receiver that the message takes.
-fn receiver_target(r: ReceiveFields, a: Registers) -> Target
-    requires { ⌜ Usable r ⌝ }
-    ensures { λ t. ⌜ t ≡ receiverTarget r a ⌝ }
+// The slot of a receiver, on that tile, which the message takes.
+fn receiver_target(sharing: &[u64], tile: u64, r: ReceiveFields, a: Registers) -> Target
+    requires { ⌜ Usable r × Inside tile 66 (length (now sharing)) ⌝ }
+    ensures { λ t. ⌜ t ≡ receiverTarget (now (sharing .entry)) tile r a ⌝ }
 {
     let fits = fit_checks(r, a);
     if let Answer::Refused(e) = fits {
         return Target::Refused(e);
     }
-    match slots::free_slot(r) {
-        Found::At { slot, far: _ } => Target::To { receiver: r, slot },
-        Found::Nothing => Target::Refused(Error::RecvNoSpace),
+    let Found::At { slot, far: _ } = slots::free_slot(r) else {
+        return Target::Refused(Error::RecvNoSpace);
+    };
+    if sharing::is_crowded(sharing, tile, r.act) {
+        return Target::Refused(Error::RecvNoSpace);
     }
+    Target::To { receiver: r, slot }
 }
 
 // Where a message by the endpoint s goes.
-pub fn find_target(b: Board, words: &[u64], tile: u64, s: SendFields, a: Registers) -> Target
-    requires { ⌜ Checked b (now words) tile ⌝ }
-    ensures { λ t. ⌜ t ≡ targetOf b (view (now (words .entry))) s a ⌝ }
+pub fn find_target(
+    b: Board,
+    words: &[u64],
+    sharing: &[u64],
+    tile: u64,
+    s: SendFields,
+    a: Registers,
+) -> Target
+    requires { ⌜ Checked b (now words) tile × Shared b (now sharing) ⌝ }
+    ensures { λ t. ⌜ t ≡ targetOf b (view (now (words .entry))) (now (sharing .entry)) s a ⌝ }
 {
     let far = far_checks(b, s);
     if let Answer::Refused(e) = far {
@@ -127,7 +139,18 @@ pub fn find_target(b: Board, words: &[u64], tile: u64, s: SendFields, a: Registe
     else {
         return Target::Refused(Error::RecvGone);
     };
-    receiver_target(r, a)
+    receiver_target(sharing, s.tgt_tile as u64, r, a)
+}
+
+// What is noted of a message that comes to the receiver r.
+pub fn arrival_of(s: SendFields, r: ReceiveFields) -> Arrival
+    ensures { λ n. ⌜ n ≡ arrivalOf s r ⌝ }
+{
+    Arrival {
+        tile: s.tgt_tile,
+        ep: s.tgt_ep,
+        act: r.act,
+    }
 }
 
 // The message comes into slot i of the receiver r.

@@ -21,55 +21,64 @@ pub const IDLE: usize = 5;
 
 pub const COMMAND: usize = 12;
 
-pub const WIRING: usize = 13;
+// The privileged side of a tile.
+pub const XCHG_ACT: usize = 13;
 
-pub const EXPECT: usize = 14;
+pub const PRIVILEGED: usize = 14;
 
-pub const SHOW: usize = 15;
+pub const RESPOND: usize = 15;
 
-pub const DUMP: usize = 16;
+pub const WIRING: usize = 16;
 
-pub const SHEET: usize = 17;
+pub const EXPECT: usize = 17;
 
-pub const DRAWING: usize = 18;
+pub const SHOW: usize = 18;
 
-pub const KINDS: usize = 19;
+pub const DUMP: usize = 19;
 
-pub const SEND_KIND: usize = 19;
+pub const WAITING: usize = 20;
 
-pub const RECEIVE_KIND: usize = 20;
+pub const SHEET: usize = 21;
 
-pub const MEMORY_KIND: usize = 21;
+pub const DRAWING: usize = 22;
 
-pub const WORDS_KIND: usize = 22;
+pub const KINDS: usize = 23;
 
-pub const FIELDS: usize = 23;
+pub const SEND_KIND: usize = 23;
+
+pub const RECEIVE_KIND: usize = 24;
+
+pub const MEMORY_KIND: usize = 25;
+
+pub const WORDS_KIND: usize = 26;
+
+pub const FIELDS: usize = 27;
 
 // The answers of document 01, in the order of their numbers.
-pub const ANSWERS: usize = 52;
+pub const ANSWERS: usize = 56;
 
-pub const BAD_MACHINE: usize = 74;
+pub const BAD_MACHINE: usize = 78;
 
-pub const YES: usize = 78;
+pub const YES: usize = 82;
 
-pub const NO: usize = 79;
+pub const NO: usize = 83;
 
 // What stands for a number: none, unlimited, r, w, rw.
-pub const VALUES: usize = 80;
+pub const VALUES: usize = 84;
 
-pub const NONE: usize = 80;
+pub const NONE: usize = 84;
 
-pub const UNLIMITED: usize = 81;
+pub const UNLIMITED: usize = 85;
 
-pub const R: usize = 82;
+pub const R: usize = 86;
 
-pub const W: usize = 83;
+pub const W: usize = 87;
 
-pub const RW: usize = 84;
+pub const RW: usize = 88;
 
-pub const PAST: usize = 85;
+pub const PAST: usize = 89;
 
-const NAMES: [u8; 1530] = *b"\
+const NAMES: [u8; 1602] = *b"\
     board             \
     activity          \
     endpoint          \
@@ -83,10 +92,14 @@ const NAMES: [u8; 1530] = *b"\
     FETCH             \
     ACK_MSG           \
     COMMAND           \
+    XCHG_ACT          \
+    PRIVILEGED        \
+    respond           \
     wiring            \
     expect            \
     show              \
     dump              \
+    waiting           \
     sheet             \
     drawing           \
     send              \

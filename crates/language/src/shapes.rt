@@ -81,13 +81,13 @@ pub const ANSWER: usize = 39;
 
 const WIDTH: usize = 47;
 
-const ROWS: usize = 23;
+const ROWS: usize = 27;
 
 // A row for each statement, in the order of its names. After the name, for the reader alone: what it answers (c a command's
-// answer, a another, w yes or no, . nothing); up to four operands (t a tile of the board, e TILE:ENDPOINT, s the same on the
+// answer, a another, w yes or no, . nothing); up to four operands (t a tile of the board, p a tile, e TILE:ENDPOINT, s the same on the
 // board, a TILE:ADDRESS on the board, b bytes, c how many bytes, 1 2 3 words, n an answer's name); and for each field whether
 // it must be given (*), may be (=) or has no place there (.), in the order of the fields' numbers above.
-const SHAPES: [u8; 1081] = *b"\
+const SHAPES: [u8; 1269] = *b"\
     board      . .... **...........................\
     activity   . t... ..*..........................\
     endpoint   . e... .............................\
@@ -101,10 +101,14 @@ const SHAPES: [u8; 1081] = *b"\
     FETCH      c e... .......................==..==\
     ACK_MSG    c e... .......................==..==\
     COMMAND    c e... .......................==.*==\
+    XCHG_ACT   c p... ...........................*.\
+    PRIVILEGED c p... ..........................*==\
+    respond    a p... .............................\
     wiring     w .... .............................\
     expect     . n... ............................=\
     show       . s... .............................\
     dump       . ac.. .............................\
+    waiting    . t... .............................\
     sheet      . .... .............................\
     drawing    . .... .............................\
     send       a .... ...******====................\

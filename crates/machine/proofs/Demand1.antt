@@ -11,6 +11,7 @@ use Rattle.numbers.specs.Choice.{_gives_else_}
 use Rattle.numbers.proofs.TestLaws.{split-and}
 use Rattle.answers.specs.Answers.{codeOf}
 use Rattle.answers.specs.declared.Error.{Error}
+use Rattle.answers.specs.declared.Error.the-variants.{UnknownCmd}
 use Rattle.answers.proofs.AnswerLaws.{code-injective}
 use Rattle.bits.specs.declared.Found.{Found}
 use Rattle.bits.specs.declared.Found.the-variants.{At, Nothing}
@@ -19,9 +20,12 @@ use Rattle.endpoint.specs.Kinds.{receiveOf, memoryOf}
 use Rattle.endpoint.specs.declared.MemoryFields.{MemoryFields}
 use Rattle.table.specs.Table.{Table, endpointAt, view}
 use Rattle.slots.specs.Slots.{unreadSlot}
+use Rattle.sharing.specs.Sharing.{wordAt, ownOf}
+use Rattle.sharing.specs.Note.{noted}
+use Rattle.sharing.specs.declared.Note.{Note}
 use Rattle.command.specs.Checks.{Check, _⇒_, first, _then_}
-use Rattle.command.specs.Command.{Command, does, _▸_, _▸▸_, send_or_gives_, receive_or_gives_, memory_or_gives_, slot_or_gives_, slot_else_gives_}
-use Rattle.command.specs.Outcome.{Outcome, outcome, carried}
+use Rattle.command.specs.Command.{Command, does, _noting_, nothing, _▸_, _▸▸_, send_or_gives_, receive_or_gives_, memory_or_gives_, slot_or_gives_, slot_else_gives_}
+use Rattle.command.specs.Outcome.{outcome, carried}
 use Rattle.command.specs.declared.Registers.{Registers}
 use Rattle.command.proofs.CheckFacts.{same}
 use Rattle.command.proofs.WriteLaws.{by-answer, carried-refused, carried-accepted}
@@ -31,8 +35,8 @@ use Rattle.receive.specs.Ack.{ackChecks, ACK_MSG}
 use Rattle.delivery.specs.Delivery.{messageChecks, farChecks, fitChecks, delivered}
 use Rattle.messages.specs.Send.{lastChecks, sendChecks, requestOf, SEND}
 use Rattle.messages.specs.Reply.{fromChecks, replyChecks, responseOf, answerOf, REPLY}
-use Rattle.machine.specs.Machine.{Opcode, opIdle, opSend, opReply, opRead, opWrite, opFetch, opAck, opOther, opcodeOf, stepOf, ownOf, hostChecks, commandOf, configureOf, invalidateOf}
-use Rattle.machine.specs.Demand1.{hostRefusals, accessRefusals, refusalsOf, configureRefusals, invalidateRefusals, From, Settles, Demand1}
+use Rattle.machine.specs.Machine.{Opcode, opIdle, opSend, opReply, opRead, opWrite, opFetch, opAck, opOther, opcodeOf, stepOf, privilegedStep, hostChecks, commandOf, configureOf, invalidateOf, privilegedOf, respondOf, Left, left, leftBy}
+use Rattle.machine.specs.Demand1.{hostRefusals, accessRefusals, refusalsOf, configureRefusals, invalidateRefusals, privilegedRefusals, From, Settles, Demand1}
 
 -- ---- the refusal of a list of checks is one that stands in it
 -- e stands in p; and so does each refusal of the list
@@ -85,32 +89,42 @@ access-within b own tile missing m a =
     let p = hostRefusals ++ accessRefusals in
     within-then p (accessChecks b own tile missing m a) [] (within-choice p (eqb (a .size) 0) [] (rangeChecks b tile m a) refl refl) refl
 
-step-within : (b : Board) (t : Table) (bs : List ℕ) (own tile : ℕ) (op : Opcode) (ep : ℕ) (a : Registers) → within (hostRefusals ++ refusalsOf op) ((stepOf b t bs own tile op ep a) .checks) ≡ true
-unfolding stepOf SEND requestOf sendChecks messageChecks lastChecks delivered farChecks fitChecks REPLY answerOf responseOf fromChecks replyChecks READ WRITE FETCH ACK_MSG ackChecks _then_ _▸_ _▸▸_ does send_or_gives_ receive_or_gives_ memory_or_gives_ slot_or_gives_
-step-within b t bs own tile opIdle ep a = refl
-step-within b t bs own tile opSend ep a = refl
-step-within b t bs own tile opReply ep a = refl
-step-within b t bs own tile opRead ep a = let m = memoryOf (endpointAt t tile ep) in access-within b own tile (eqb (m .rw % 2) 0) m a
-step-within b t bs own tile opWrite ep a = let m = memoryOf (endpointAt t tile ep) in access-within b own tile (eqb (m .rw / 2 % 2) 0) m a
-step-within b t bs own tile opFetch ep a = within-slot (hostRefusals ++ refusalsOf opFetch) (unreadSlot (receiveOf (endpointAt t tile ep))) _ _ refl (λ i. refl)
-step-within b t bs own tile opAck ep a = refl
-step-within b t bs own tile opOther ep a = refl
+step-within : (b : Board) (t : Table) (sh bs : List ℕ) (own tile : ℕ) (op : Opcode) (ep : ℕ) (a : Registers) → within (hostRefusals ++ refusalsOf op) ((stepOf b t sh bs own tile op ep a) .checks) ≡ true
+unfolding stepOf SEND requestOf sendChecks messageChecks lastChecks delivered farChecks fitChecks REPLY answerOf responseOf fromChecks replyChecks READ WRITE FETCH ACK_MSG ackChecks _then_ _▸_ _▸▸_ does _noting_ send_or_gives_ receive_or_gives_ memory_or_gives_ slot_or_gives_
+step-within b t sh bs own tile opIdle ep a = refl
+step-within b t sh bs own tile opSend ep a = refl
+step-within b t sh bs own tile opReply ep a = refl
+step-within b t sh bs own tile opRead ep a = let m = memoryOf (endpointAt t tile ep) in access-within b own tile (eqb (m .rw % 2) 0) m a
+step-within b t sh bs own tile opWrite ep a = let m = memoryOf (endpointAt t tile ep) in access-within b own tile (eqb (m .rw / 2 % 2) 0) m a
+step-within b t sh bs own tile opFetch ep a = within-slot (hostRefusals ++ refusalsOf opFetch) (unreadSlot (receiveOf (endpointAt t tile ep))) _ _ refl (λ i. refl)
+step-within b t sh bs own tile opAck ep a = refl
+step-within b t sh bs own tile opOther ep a = refl
+
+privileged-within : (sh : List ℕ) (tile op arg0 arg1 : ℕ) → within privilegedRefusals ((privilegedStep sh tile op arg0 arg1) .checks) ≡ true
+unfolding privilegedStep _gives_else_ _▸_ does _noting_
+privileged-within sh tile op arg0 arg1 = go (eqb op 0) (eqb op 4)
+  where
+    go : (x y : Bool)
+        → within privilegedRefusals ((x gives does [] nothing arg1 else y gives (does [] nothing (wordAt sh tile 0) noting Note.Exchanged (arg0 % 4294967296)) else (true ⇒ UnknownCmd ▸ does [] nothing arg1)) .checks) ≡ true
+    go true y = refl
+    go false true = refl
+    go false false = refl
 
 -- ---- any command: what it settles to
 module _ (x : ℕ) (ws bs : List ℕ) (k : Command) where
-  answered : (carried x ws bs k) .completion .answer ≡ first (k .checks)
+  pub answered : (carried x ws bs k) .completion .answer ≡ first (k .checks)
   unfolding outcome
   answered = by-answer (first (k .checks)) (λ h. rw (carried-accepted x ws bs k h, h)) (λ e h. rw (carried-refused x ws bs k e h, h))
 
-  settles : (l : List Error) → within l (k .checks) ≡ true → Settles x ws bs l k
-  unfolding outcome
-  settles l h =
+  settles : (sh : List ℕ) (tile : ℕ) (l : List Error) → within l (k .checks) ≡ true → Settles x ws sh bs tile l k
+  unfolding outcome left leftBy noted
+  settles sh tile l h =
       record {
         listed = rw answered (first-from l (k .checks) h);
-        unchanged = λ e q. carried-refused x ws bs k e (sym answered ∙ q);
-        only = λ r s v w c d p q.
-            let same = p ∙ sym q in
-            (ap (λ (o : Outcome). o .completion) same, ap (λ (o : Outcome). o .words) same, ap (λ (o : Outcome). o .bytes) same);
+        unchanged = λ e q. ap (leftBy sh tile) (carried-refused x ws bs k e (sym answered ∙ q));
+        only = λ r s v w p q c d e f.
+            let same = e ∙ sym f in
+            (ap (λ (o : Left). o .completion) same, ap (λ (o : Left). o .words) same, ap (λ (o : Left). o .sharing) same, ap (λ (o : Left). o .bytes) same);
       }
 
 -- ---- ARG_1
@@ -139,28 +153,30 @@ other-opcode op d = rw (ne-eqb op 5 d) (go (eqb op 0) (eqb op 1) (eqb op 2) (eqb
     go false false false false false true = refl
     go false false false false false false = refl
 
-hands-back : (b : Board) (t : Table) (bs : List ℕ) (own tile : ℕ) (op : Opcode) (ep : ℕ) (a : Registers) → isFetch op ≡ false → (stepOf b t bs own tile op ep a) .effect .hands ≡ a .arg1
-unfolding stepOf SEND requestOf delivered REPLY answerOf responseOf READ WRITE ACK_MSG _▸_ _▸▸_ does send_or_gives_ receive_or_gives_ memory_or_gives_ slot_or_gives_
-hands-back b t bs own tile opIdle ep a h = refl
-hands-back b t bs own tile opSend ep a h = refl
-hands-back b t bs own tile opReply ep a h = refl
-hands-back b t bs own tile opRead ep a h = refl
-hands-back b t bs own tile opWrite ep a h = refl
-hands-back b t bs own tile opFetch ep a h = let z : _≡_ {A = ℕ} 0 1 = cc in absurd (omega arith)
-hands-back b t bs own tile opAck ep a h = refl
-hands-back b t bs own tile opOther ep a h = refl
+hands-back : (b : Board) (t : Table) (sh bs : List ℕ) (own tile : ℕ) (op : Opcode) (ep : ℕ) (a : Registers) → isFetch op ≡ false → (stepOf b t sh bs own tile op ep a) .effect .hands ≡ a .arg1
+unfolding stepOf SEND requestOf delivered REPLY answerOf responseOf READ WRITE ACK_MSG _▸_ _▸▸_ does _noting_ send_or_gives_ receive_or_gives_ memory_or_gives_ slot_or_gives_
+hands-back b t sh bs own tile opIdle ep a h = refl
+hands-back b t sh bs own tile opSend ep a h = refl
+hands-back b t sh bs own tile opReply ep a h = refl
+hands-back b t sh bs own tile opRead ep a h = refl
+hands-back b t sh bs own tile opWrite ep a h = refl
+hands-back b t sh bs own tile opFetch ep a h = let z : _≡_ {A = ℕ} 0 1 = cc in absurd (omega arith)
+hands-back b t sh bs own tile opAck ep a h = refl
+hands-back b t sh bs own tile opOther ep a h = refl
 
-arg1-back : (x : ℕ) (ws bs : List ℕ) (k : Command) → k .effect .hands ≡ x → (carried x ws bs k) .completion .arg1 ≡ x
+pub arg1-back : (x : ℕ) (ws bs : List ℕ) (k : Command) → k .effect .hands ≡ x → (carried x ws bs k) .completion .arg1 ≡ x
 unfolding outcome
 arg1-back x ws bs k h = by-answer (first (k .checks)) (λ e. rw (carried-accepted x ws bs k e) h) (λ d e. rw (carried-refused x ws bs k d e))
 
 -- ---- the demand
 pub demand-1 : Demand1
-unfolding commandOf configureOf invalidateOf hostChecks _▸▸_ _▸_ _then_ does
+unfolding commandOf configureOf invalidateOf privilegedOf respondOf hostChecks _▸▸_ _▸_ _then_ does _noting_
 demand-1 =
     record {
-      command = λ b ws ids bs tile op ep a. settles (a .arg1) ws bs _ (hostRefusals ++ refusalsOf (opcodeOf op)) (step-within b (view ws) bs (ownOf ids tile) tile (opcodeOf op) ep a);
-      configure = λ b ws ids bs tile ep w x. settles x ws bs _ configureRefusals refl;
-      invalidate = λ b ws ids bs tile ep x. settles x ws bs _ invalidateRefusals refl;
-      arg1-back = λ b ws ids bs tile op ep a d. arg1-back (a .arg1) ws bs _ (hands-back b (view ws) bs (ownOf ids tile) tile (opcodeOf op) ep a (other-opcode op d));
+      command = λ b ws sh bs tile op ep a. settles (a .arg1) ws bs _ sh tile (hostRefusals ++ refusalsOf (opcodeOf op)) (step-within b (view ws) sh bs (ownOf sh tile) tile (opcodeOf op) ep a);
+      configure = λ b ws sh bs tile ep w x. settles x ws bs _ sh tile configureRefusals refl;
+      invalidate = λ b ws sh bs tile ep x. settles x ws bs _ sh tile invalidateRefusals refl;
+      privileged = λ b ws sh bs tile op arg0 arg1. settles arg1 ws bs _ sh tile privilegedRefusals (privileged-within sh tile op arg0 arg1);
+      respond = λ b ws sh bs tile x. settles x ws bs _ sh tile hostRefusals refl;
+      arg1-back = λ b ws sh bs tile op ep a d. arg1-back (a .arg1) ws bs _ (hands-back b (view ws) sh bs (ownOf sh tile) tile (opcodeOf op) ep a (other-opcode op d));
     }

@@ -25,11 +25,12 @@ use Rattle.endpoint.proofs.EndpointLaws.{fits-true}
 use Rattle.table.specs.Table.{Table, place, endpointAt}
 use Rattle.table.specs.Good.{memoryAt}
 use Rattle.table.proofs.TableLaws.{live}
+use Rattle.sharing.specs.declared.Note.the-variants.{Read}
 use Rattle.slots.specs.Slots.{slotsOf, freeSlot, unreadSlot, slotNamed, rangeBad, rangePast, filled, cleared}
 use Rattle.slots.proofs.RecordLaws.{filled-ok, fetched-ok, cleared-ok}
 use Rattle.slots.proofs.SlotFacts.{usable, found-free, found-unread}
 use Rattle.command.specs.Checks.{first, _then_}
-use Rattle.command.specs.Command.{isNothing, slotOf, does, nothing, _▸_, _▸▸_, send_or_gives_, receive_or_gives_, slot_or_gives_, slot_else_gives_}
+use Rattle.command.specs.Command.{isNothing, slotOf, does, _noting_, nothing, _▸_, _▸▸_, send_or_gives_, receive_or_gives_, slot_or_gives_, slot_else_gives_}
 use Rattle.command.specs.declared.Registers.{Registers}
 use Rattle.command.proofs.CheckFacts.{passed}
 use Rattle.command.proofs.WriteLaws.{Fit, Fits}
@@ -48,7 +49,7 @@ is-send (Send s) h = refl
 is-send (Receive r) h = cc
 is-send (Memory m) h = cc
 
-is-receive : (e : Endpoint) → isReceive e ≡ true → e ≡ Receive (receiveOf e)
+pub is-receive : (e : Endpoint) → isReceive e ≡ true → e ≡ Receive (receiveOf e)
 is-receive Invalid h = cc
 is-receive (Send s) h = cc
 is-receive (Receive r) h = refl
@@ -163,14 +164,14 @@ module _ (b : Board) (t : Table) (good : (q : ℕ) → q < b .tiles * 64 → acc
   module _ (tile ep : ℕ) (on : tile < b .tiles) where
     -- check 0: the endpoint receives
     pub fetch-fits : (own : ℕ) → first ((FETCH t own tile ep) .checks) ≡ None → Fits b ((FETCH t own tile ep) .effect .writes)
-    unfolding FETCH fetchWrites _▸_ does receive_or_gives_ slot_else_gives_
+    unfolding FETCH fetchWrites _▸_ does _noting_ receive_or_gives_ slot_else_gives_
     fetch-fits own h =
         let r = receiveOf (endpointAt t tile ep) in
         let x = receives tile ep on (not-false (isReceive (endpointAt t tile ep)) (passed ((FETCH t own tile ep) .checks) h 0)) in
         go r x (unreadSlot r) refl
       where
         go : (r : ReceiveFields) → Stands b tile ep (Receive r) → (u : Found) → unreadSlot r ≡ u
-            → Fits b ((slot u else does [] nothing 18446744073709551615 gives λ i. does (fetchWrites tile ep r i) nothing (i * 2 ^ r .«slot_size»)) .effect .writes)
+            → Fits b ((slot u else does [] nothing 18446744073709551615 gives λ i. does (fetchWrites tile ep r i) nothing (i * 2 ^ r .«slot_size») noting Read) .effect .writes)
         go r x (At i d) e =
             let m = memoryAt b (place tile ep) in
             ((λ _. record { there = x .there; ok = fetched-ok m r (x .ok) i (found-unread r (unreadSlot r) i d (usable m r (x .ok)) refl e) }), tt)
@@ -178,7 +179,7 @@ module _ (b : Board) (t : Table) (good : (q : ℕ) → q < b .tiles * 64 → acc
 
     -- checks 0: the endpoint receives; 1: its reply range; 3: the slot is one of its own
     pub ack-fits : (own : ℕ) (a : Registers) → first ((ACK_MSG t own tile ep a) .checks) ≡ None → Fits b ((ACK_MSG t own tile ep a) .effect .writes)
-    unfolding ACK_MSG ackChecks ackWrites _then_ _▸_ _▸▸_ does receive_or_gives_
+    unfolding ACK_MSG ackChecks ackWrites _then_ _▸_ _▸▸_ does _noting_ receive_or_gives_
     ack-fits own a h =
         let ok = passed ((ACK_MSG t own tile ep a) .checks) h in
         let r = receiveOf (endpointAt t tile ep) in
@@ -196,10 +197,10 @@ module _ (b : Board) (t : Table) (good : (q : ℕ) → q < b .tiles * 64 → acc
 
     -- checks 0: the endpoint receives; 4: the slot is one of its own; 5: the reply endpoint sends; 14: the target's tile is there;
     -- 15: the target receives; 18: a slot is free
-    pub reply-fits : (bs : List ℕ) (own : ℕ) (a : Registers) → first ((REPLY b t bs own tile ep a) .checks) ≡ None → Fits b ((REPLY b t bs own tile ep a) .effect .writes)
-    unfolding REPLY answerOf responseOf creditTo creditReturned replyGone slotFreed fromChecks replyChecks messageChecks delivered farChecks fitChecks replyWrites arrival response creditable credited _then_ _▸_ _▸▸_ does send_or_gives_ receive_or_gives_ slot_or_gives_
-    reply-fits bs own a h =
-        let ok = passed ((REPLY b t bs own tile ep a) .checks) h in
+    pub reply-fits : (sh bs : List ℕ) (own : ℕ) (a : Registers) → first ((REPLY b t sh bs own tile ep a) .checks) ≡ None → Fits b ((REPLY b t sh bs own tile ep a) .effect .writes)
+    unfolding REPLY answerOf responseOf creditTo creditReturned replyGone slotFreed fromChecks replyChecks messageChecks delivered farChecks fitChecks replyWrites arrival response creditable credited _then_ _▸_ _▸▸_ does _noting_ send_or_gives_ receive_or_gives_ slot_or_gives_
+    reply-fits sh bs own a h =
+        let ok = passed ((REPLY b t sh bs own tile ep a) .checks) h in
         let g = receiveOf (endpointAt t tile ep) in
         let i = slotNamed g (a .arg0) in
         let s = sendOf (endpointAt t tile (g .«rpl_eps» + i)) in
@@ -239,10 +240,10 @@ module _ (b : Board) (t : Table) (good : (q : ℕ) → q < b .tiles * 64 → acc
 
       -- checks 0: the endpoint sends; 7: arg0 names a receive endpoint, if any; 11: the target's tile is there; 12: the target
       -- receives; 14: its reply range; 15: a slot is free
-      pub send-fits : (bs : List ℕ) (own : ℕ) → first ((SEND b t bs own tile ep a) .checks) ≡ None → Fits b ((SEND b t bs own tile ep a) .effect .writes)
-      unfolding SEND requestOf replyPlaced creditSpent sendChecks messageChecks lastChecks delivered farChecks fitChecks sendWrites arrival request _then_ _▸_ _▸▸_ does send_or_gives_ receive_or_gives_ slot_or_gives_
-      send-fits bs own h =
-          let ok = passed ((SEND b t bs own tile ep a) .checks) h in
+      pub send-fits : (sh bs : List ℕ) (own : ℕ) → first ((SEND b t sh bs own tile ep a) .checks) ≡ None → Fits b ((SEND b t sh bs own tile ep a) .effect .writes)
+      unfolding SEND requestOf replyPlaced creditSpent sendChecks messageChecks lastChecks delivered farChecks fitChecks sendWrites arrival request _then_ _▸_ _▸▸_ does _noting_ send_or_gives_ receive_or_gives_ slot_or_gives_
+      send-fits sh bs own h =
+          let ok = passed ((SEND b t sh bs own tile ep a) .checks) h in
           let s = sendOf (endpointAt t tile ep) in
           let r = receiveOf (endpointAt t (s .«tgt_tile») (s .«tgt_ep»)) in
           let i = slotOf (freeSlot r) in

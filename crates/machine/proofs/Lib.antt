@@ -1,5 +1,7 @@
 pub mod HostLaws
 pub mod Fitting
+pub mod Noting
+pub mod LeftLaws
 pub mod Kept
 pub mod Demand1
 pub mod Numbers

@@ -8,7 +8,7 @@ use Rattle.endpoint.proofs.Numbers as endpoint-numbers
 use Rattle.table.specs.Table.{endpointAt, upd}
 use Rattle.slots.specs.Slots.{freeSlot, unreadSlot, slotNamed, rangePast, rangeBad, fetched}
 use Rattle.command.specs.Checks.{first}
-use Rattle.command.specs.Command.{does, _▸_, receive_or_gives_, slot_else_gives_}
+use Rattle.command.specs.Command.{does, _noting_, _▸_, receive_or_gives_, slot_else_gives_}
 use Rattle.command.specs.Outcome.{tabled}
 use Rattle.command.specs.Local.{crossesPage}
 use Rattle.delivery.specs.Delivery.{tooLong, messageChecks}
@@ -17,7 +17,7 @@ use Rattle.receive.specs.Ack.{ackChecks}
 use Rattle.machine.specs.Numbers.{Numbers}
 
 pub numbers : Numbers
-unfolding _gives_else_ _above_ search-loops.first findSlot endpointAt upd freeSlot unreadSlot slotNamed rangePast rangeBad fetched first does _▸_ receive_or_gives_ slot_else_gives_ tabled crossesPage tooLong messageChecks fetchWrites FETCH ackChecks
+unfolding _gives_else_ _above_ search-loops.first findSlot endpointAt upd freeSlot unreadSlot slotNamed rangePast rangeBad fetched first does _noting_ _▸_ receive_or_gives_ slot_else_gives_ tabled crossesPage tooLong messageChecks fetchWrites FETCH ackChecks
 numbers =
     record {
       p1 = endpoint-numbers.p1;

@@ -10,10 +10,10 @@ use Rattle.answers.specs.declared.Answer.the-variants.{None, Refused}
 use Rattle.board.specs.declared.Board.{Board}
 use Rattle.endpoint.specs.declared.Words.{Words}
 use Rattle.command.specs.Command.{Command}
-use Rattle.command.specs.Outcome.{outcome, completes, carried}
+use Rattle.command.specs.Outcome.{completes, carried}
 use Rattle.command.specs.declared.Registers.{Registers}
 use Rattle.command.specs.declared.Completion.{Completion}
-use Rattle.machine.specs.Machine.{Opcode, opIdle, opSend, opReply, opRead, opWrite, opFetch, opAck, opOther, opcodeOf, commandOf, configureOf, invalidateOf}
+use Rattle.machine.specs.Machine.{Opcode, opIdle, opSend, opReply, opRead, opWrite, opFetch, opAck, opOther, opcodeOf, commandOf, configureOf, invalidateOf, privilegedOf, respondOf, left, leftBy}
 
 -- ---- document 01's lists, in its order: the host's refusals come first
 abbrev pub hostRefusals : List Error
@@ -44,25 +44,32 @@ configureRefusals = hostRefusals ++ (BadEp ∷ BadConfig ∷ [])
 abbrev pub invalidateRefusals : List Error
 invalidateRefusals = hostRefusals ++ (BadEp ∷ [])
 
--- ---- one call: the command k, given x as ARG_1, on the words ws and the bytes bs
+-- what both kinds of commands refuse by their opcode alone
+abbrev pub privilegedRefusals : List Error
+privilegedRefusals = hostRefusals ++ (UnknownCmd ∷ [])
+
+-- ---- one call of a tile: the command k, given x as ARG_1, on the words ws, the sharing records sh and the bytes bs
 -- NONE, or a refusal in the list
 abbrev pub From : List Error → Answer → Type 0
 From l None = Unit {0}
 From l (Refused e) = List·Memᴰ e l
 
-pub record Settles (x : ℕ) (ws bs : List ℕ) (l : List Error) (k : Command) : Type 0 where
+pub record Settles (x : ℕ) (ws sh bs : List ℕ) (tile : ℕ) (l : List Error) (k : Command) : Type 0 where
   -- the answer is in the list
   pub listed : From l ((carried x ws bs k) .completion .answer)
-  -- a refusal changes no word and no byte, and gives ARG_1 back
-  pub unchanged : (e : Error) → (carried x ws bs k) .completion .answer ≡ Refused e → carried x ws bs k ≡ outcome (completes (Refused e) x) ws bs
+  -- a refusal changes no word, no record and no byte, and gives ARG_1 back
+  pub unchanged : (e : Error) → (carried x ws bs k) .completion .answer ≡ Refused e → leftBy sh tile (carried x ws bs k) ≡ left (completes (Refused e) x) ws sh bs
   -- no second answer or end state fits
-  pub only : (r s : Completion) (v w c d : List ℕ) → outcome r v c ≡ carried x ws bs k → outcome s w d ≡ carried x ws bs k → (r ≡ s) × (v ≡ w) × (c ≡ d)
+  pub only : (r s : Completion) (v w p q c d : List ℕ) → left r v p c ≡ leftBy sh tile (carried x ws bs k) → left s w q d ≡ leftBy sh tile (carried x ws bs k)
+      → (r ≡ s) × (v ≡ w) × (p ≡ q) × (c ≡ d)
 
 pub record Demand1 : Type 0 where
-  pub command : (b : Board) (ws ids bs : List ℕ) (tile op ep : ℕ) (a : Registers)
-      → Settles (a .arg1) ws bs (hostRefusals ++ refusalsOf (opcodeOf op)) (commandOf b ws ids bs tile op ep a)
-  pub configure : (b : Board) (ws ids bs : List ℕ) (tile ep : ℕ) (w : Words) (x : ℕ) → Settles x ws bs configureRefusals (configureOf b ws ids bs tile ep w)
-  pub invalidate : (b : Board) (ws ids bs : List ℕ) (tile ep x : ℕ) → Settles x ws bs invalidateRefusals (invalidateOf b ws ids bs tile ep)
+  pub command : (b : Board) (ws sh bs : List ℕ) (tile op ep : ℕ) (a : Registers)
+      → Settles (a .arg1) ws sh bs tile (hostRefusals ++ refusalsOf (opcodeOf op)) (commandOf b ws sh bs tile op ep a)
+  pub configure : (b : Board) (ws sh bs : List ℕ) (tile ep : ℕ) (w : Words) (x : ℕ) → Settles x ws sh bs tile configureRefusals (configureOf b ws sh bs tile ep w)
+  pub invalidate : (b : Board) (ws sh bs : List ℕ) (tile ep x : ℕ) → Settles x ws sh bs tile invalidateRefusals (invalidateOf b ws sh bs tile ep)
+  pub privileged : (b : Board) (ws sh bs : List ℕ) (tile op arg0 arg1 : ℕ) → Settles arg1 ws sh bs tile privilegedRefusals (privilegedOf b ws sh bs tile op arg0 arg1)
+  pub respond : (b : Board) (ws sh bs : List ℕ) (tile x : ℕ) → Settles x ws sh bs tile hostRefusals (respondOf b ws sh bs tile)
   -- ARG_1 comes back as given from every opcode but FETCH's; a FETCH that is refused gives it back by `unchanged`
-  pub arg1-back : (b : Board) (ws ids bs : List ℕ) (tile op ep : ℕ) (a : Registers) → (op ≡ 5 → ⊥)
-      → (carried (a .arg1) ws bs (commandOf b ws ids bs tile op ep a)) .completion .arg1 ≡ a .arg1
+  pub arg1-back : (b : Board) (ws sh bs : List ℕ) (tile op ep : ℕ) (a : Registers) → (op ≡ 5 → ⊥)
+      → (carried (a .arg1) ws bs (commandOf b ws sh bs tile op ep a)) .completion .arg1 ≡ a .arg1

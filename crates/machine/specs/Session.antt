@@ -1,6 +1,6 @@
 -- Document 01, the session program: two tiles, M 4096, activity 5 everywhere, other fields 0. Nine commands, and for each a line
 -- of five numbers: step, answer, ARG_1, cur_crd of tile 0's endpoint 4, occupied of tile 1's endpoint 7.
--- The lines say nothing of bytes, so the commands are given none.
+-- The lines say nothing of bytes and of sharing records, so the commands are given none: nothing waits, and the activity is 5.
 use Prim.Native.Nat.{ℕ, _+_}
 use mathlib.Core.Bool.{false}
 use mathlib.Core.List.{List, [], _∷_}
@@ -54,7 +54,7 @@ session =
 
 -- what a step does to a table, and its line where the table is t before and u afterwards
 abbrev pub commandOn : Table → Step → Command
-commandOn t c = stepOf sessionBoard t [] 5 (c .tile) (c .opcode) (c .ep) (record { arg0 = c .arg0; addr = 0; size = c .size; arg1 = c .arg1 })
+commandOn t c = stepOf sessionBoard t [] [] 5 (c .tile) (c .opcode) (c .ep) (record { arg0 = c .arg0; addr = 0; size = c .size; arg1 = c .arg1 })
 
 abbrev pub lineOf : ℕ → Step → Command → Table → List ℕ
 lineOf n c k u =

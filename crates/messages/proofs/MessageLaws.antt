@@ -18,6 +18,8 @@ use Rattle.endpoint.specs.Layout.{fit}
 use Rattle.endpoint.specs.declared.SendFields.{SendFields}
 use Rattle.endpoint.specs.declared.ReceiveFields.{ReceiveFields}
 use Rattle.table.specs.Table.{view}
+use Rattle.sharing.specs.declared.Arrival.{Arrival}
+use Rattle.sharing.specs.declared.Note.the-variants.{Came}
 use Rattle.command.specs.Checked.{Checked}
 use Rattle.command.specs.Outcome.{written, placed}
 use Rattle.command.specs.declared.Registers.{Registers}
@@ -43,13 +45,17 @@ tile-small b ws tile c = omega (arith, c .there, bounds b (c .board) .few)
 pub tile-fits : (b : Board) (ws : List ℕ) (tile : ℕ) → Checked b ws tile → Fits w8 tile
 tile-fits b ws tile c = record { fits = omega (arith, tile-small b ws tile c) }
 
-module _ (b : Board) (ws : List ℕ) (tile : ℕ) (s : SendFields) (a : Registers) (q : Target) (r : ReceiveFields) (i : ℕ) (c : Checked b ws tile) (e : q ≡ targetOf b (view ws) s a) (p : q ≡ To r i) where
+module _ (b : Board) (ws sh : List ℕ) (tile : ℕ) (s : SendFields) (a : Registers) (q : Target) (r : ReceiveFields) (i : ℕ) (c : Checked b ws tile) (e : q ≡ targetOf b (view ws) sh s a) (p : q ≡ To r i) where
   pub landed : Landed (length ws) s r i
-  landed = record { words = to-words b ws tile s a q r i c e p; live = to-live b ws tile s a q r i c e p; small = to-small b ws tile s a q r i c e p; reach = to-reach b ws tile s a q r i c e p }
+  landed = record { words = to-words b ws sh tile s a q r i c e p; live = to-live b ws sh tile s a q r i c e p; small = to-small b ws sh tile s a q r i c e p; reach = to-reach b ws sh tile s a q r i c e p }
 
   pub stowable : (h : Header) (n : ℕ) → n ≡ bytesOf b → a .addr + a .size ≤ sizeOf b tile → All (fit (headerFields h)) → Stowed b n tile a s r i h
-  stowable h n l k f = record { slot = slot-in b ws tile s a q r i c e p; long = l; own = c .there; local-in = k; fits-slot = to-fits b ws tile s a q r i c e p; fields-fit = f }
+  stowable h n l k f = record { slot = slot-in b ws sh tile s a q r i c e p; long = l; own = c .there; local-in = k; fits-slot = to-fits b ws sh tile s a q r i c e p; fields-fit = f }
 
 -- the bytes of a message whose header a call made
 pub stowed-as : (cs bs : List ℕ) (b : Board) (tile : ℕ) (a : Registers) (s : SendFields) (r : ReceiveFields) (i : ℕ) (h k : Header) → h ≡ k → cs ≡ placed bs (messageTo b bs tile a s r i h) → cs ≡ placed bs (messageTo b bs tile a s r i k)
 stowed-as cs bs b tile a s r i h k e x = rw (← e) x
+
+-- what is noted of a message, by the record and the flag that calls answered
+pub noted-as : (x y : Arrival) (f g : Bool) → x ≡ y → f ≡ g → Came x f ≡ Came y g
+noted-as x y f g p q = rw (p, q)

@@ -99,9 +99,9 @@ response-fits : (b : Board) (ws : List ℕ) (tile ep i : ℕ) (g : ReceiveFields
 unfolding response
 response-fits b ws tile ep i g s a c z = omega (arith, tile-small b ws tile c, z .from, z .short, z .credit-small)
 
-pub stow-response : (b : Board) (ws : List ℕ) (n tile ep i : ℕ) (g : ReceiveFields) (s : SendFields) (a : Registers) (q : Target) (r : ReceiveFields) (j : ℕ) (h : Header)
-    → Checked b ws tile → n ≡ bytesOf b → Replyable b tile ep g i s a → q ≡ targetOf b (view ws) s a → q ≡ To r j → h ≡ response tile ep s a → Stowed b n tile a s r j h
-stow-response b ws n tile ep i g s a q r j h c m z e p k = stowable b ws tile s a q r j c e p h n m (z .local-in) (rw k (response-fits b ws tile ep i g s a c z))
+pub stow-response : (b : Board) (ws sh : List ℕ) (n tile ep i : ℕ) (g : ReceiveFields) (s : SendFields) (a : Registers) (q : Target) (r : ReceiveFields) (j : ℕ) (h : Header)
+    → Checked b ws tile → n ≡ bytesOf b → Replyable b tile ep g i s a → q ≡ targetOf b (view ws) sh s a → q ≡ To r j → h ≡ response tile ep s a → Stowed b n tile a s r j h
+stow-response b ws sh n tile ep i g s a q r j h c m z e p k = stowable b ws sh tile s a q r j c e p h n m (z .local-in) (rw k (response-fits b ws tile ep i g s a c z))
 
 -- ---- the credit
 credit-small : (m : ℕ) (x : Endpoint) → acceptable m x ≡ true → (sendOf x) .«cur_crd» < 64
@@ -111,13 +111,13 @@ credit-small m (Send f) h = fits-true m (Send f) h .1 .1 .0
 credit-small m (Receive r) h = omega arith
 credit-small m (Memory y) h = omega arith
 
-pub may-credit : (b : Board) (ws : List ℕ) (tile ep i : ℕ) (g : ReceiveFields) (s : SendFields) (a : Registers) (q : Target) (r : ReceiveFields) (j : ℕ) (h : Header) (x : Endpoint) → Checked b ws tile
-    → Replyable b tile ep g i s a → q ≡ targetOf b (view ws) s a → q ≡ To r j → h ≡ response tile ep s a → x ≡ endpointAt (view ws) (s .«tgt_tile») (s .«crd_ep») → Creditable x (h .rep)
+pub may-credit : (b : Board) (ws sh : List ℕ) (tile ep i : ℕ) (g : ReceiveFields) (s : SendFields) (a : Registers) (q : Target) (r : ReceiveFields) (j : ℕ) (h : Header) (x : Endpoint) → Checked b ws tile
+    → Replyable b tile ep g i s a → q ≡ targetOf b (view ws) sh s a → q ≡ To r j → h ≡ response tile ep s a → x ≡ endpointAt (view ws) (s .«tgt_tile») (s .«crd_ep») → Creditable x (h .rep)
 unfolding response
-may-credit b ws tile ep i g s a q r j h x c z e p k y =
+may-credit b ws sh tile ep i g s a q r j h x c z e p k y =
     record {
       there = λ d. rw k (z .credit-in (λ w. d (rw k w)));
-      small = credit-small (sizeOf b (s .«tgt_tile»)) x (rw y (read-acceptable b ws tile (s .«tgt_tile») (s .«crd_ep») c (to-tile b ws tile s a q r j c e p)));
+      small = credit-small (sizeOf b (s .«tgt_tile»)) x (rw y (read-acceptable b ws tile (s .«tgt_tile») (s .«crd_ep») c (to-tile b ws sh tile s a q r j c e p)));
     }
 
 pub credit-there : (x : Endpoint) (rep : ℕ) → Creditable x rep → (rep ≡ 65535 → ⊥) → rep < 64
@@ -155,6 +155,6 @@ unfolding replyWrites creditReturned response
 replied us ws t tile ep i g s r j a h x e y k = rw (← y, ← e) k
 
 -- from the slot that a call named on
-pub answer-as : {X : Type 0} (o : X) (f : Error → X) (h : Effect → X) (b : Board) (t : Table) (bs : List ℕ) (tile ep i x : ℕ) (g : ReceiveFields) (a : Registers) → i ≡ slotNamed g x
-    → o ≡ settled f h (answerOf b t bs tile ep g i a) → o ≡ settled f h (answerOf b t bs tile ep g (slotNamed g x) a)
-answer-as o f h b t bs tile ep i x g a e y = rw (← e) y
+pub answer-as : {X : Type 0} (o : X) (f : Error → X) (h : Effect → X) (b : Board) (t : Table) (sh bs : List ℕ) (tile ep i x : ℕ) (g : ReceiveFields) (a : Registers) → i ≡ slotNamed g x
+    → o ≡ settled f h (answerOf b t sh bs tile ep g i a) → o ≡ settled f h (answerOf b t sh bs tile ep g (slotNamed g x) a)
+answer-as o f h b t sh bs tile ep i x g a e y = rw (← e) y

@@ -118,9 +118,9 @@ unfolding request
 request-fits b ws tile ep s a c z = omega (arith, tile-small b ws tile c, sep-small ep s (z .from), z .rsize-small, z .short, z .rep-small)
 
 -- what storing the message asks
-pub stow-request : (b : Board) (ws : List ℕ) (n tile ep : ℕ) (s : SendFields) (a : Registers) (q : Target) (r : ReceiveFields) (i : ℕ) (h : Header) → Checked b ws tile → n ≡ bytesOf b
-    → Sendable b (view ws) tile ep s a → q ≡ targetOf b (view ws) s a → q ≡ To r i → h ≡ request (view ws) tile ep s a → Stowed b n tile a s r i h
-stow-request b ws n tile ep s a q r i h c l z e p k = stowable b ws tile s a q r i c e p h n l (z .local-in) (rw k (request-fits b ws tile ep s a c z))
+pub stow-request : (b : Board) (ws sh : List ℕ) (n tile ep : ℕ) (s : SendFields) (a : Registers) (q : Target) (r : ReceiveFields) (i : ℕ) (h : Header) → Checked b ws tile → n ≡ bytesOf b
+    → Sendable b (view ws) tile ep s a → q ≡ targetOf b (view ws) sh s a → q ≡ To r i → h ≡ request (view ws) tile ep s a → Stowed b n tile a s r i h
+stow-request b ws sh n tile ep s a q r i h c l z e p k = stowable b ws sh tile s a q r i c e p h n l (z .local-in) (rw k (request-fits b ws tile ep s a c z))
 
 -- the writes of a message whose header a call made
 pub sent-as : (us ws : List ℕ) (tile ep : ℕ) (s : SendFields) (r : ReceiveFields) (i : ℕ) (h k : Header) → h ≡ k → us ≡ written ws (sendWrites tile ep s r i h) → us ≡ written ws (sendWrites tile ep s r i k)

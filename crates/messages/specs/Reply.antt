@@ -10,6 +10,7 @@ use lib.Dec.{eqb, leb}
 use Rattle.numbers.specs.Choice.{_gives_else_}
 use Rattle.answers.specs.declared.Error.the-variants.{NoRep, RepliesDisabled, RecvInvRplEps, ForeignEp, InvMsgOff, NoSep, SendReplyEp, SendInvCrdEp, Abort}
 use Rattle.board.specs.declared.Board.{Board}
+use Rattle.bits.specs.Bits.{hasBit}
 use Rattle.endpoint.specs.Kinds.{isSend, sendOf}
 use Rattle.endpoint.specs.declared.SendFields.{SendFields}
 use Rattle.endpoint.specs.declared.ReceiveFields.{ReceiveFields}
@@ -17,11 +18,12 @@ use Rattle.endpoint.specs.declared.Endpoint.{Endpoint}
 use Rattle.endpoint.specs.declared.Endpoint.the-variants.{Invalid, Send, Receive}
 use Rattle.table.specs.Table.{Table, place, endpointAt}
 use Rattle.slots.specs.Slots.{slotsOf, slotNamed, rangePast, cleared}
+use Rattle.sharing.specs.declared.Note.the-variants.{Came}
 use Rattle.command.specs.Checks.{Check, _⇒_, _then_}
-use Rattle.command.specs.Command.{Command, Write, _⇐_to_, does, _▸▸_, receive_or_gives_, send_or_gives_}
+use Rattle.command.specs.Command.{Command, Write, _⇐_to_, does, _noting_, _▸▸_, receive_or_gives_, send_or_gives_}
 use Rattle.command.specs.Local.{outside}
 use Rattle.command.specs.declared.Registers.{Registers}
-use Rattle.delivery.specs.Delivery.{messageChecks, delivered, arrival, messageTo}
+use Rattle.delivery.specs.Delivery.{messageChecks, delivered, arrival, arrivalOf, messageTo}
 use Rattle.messages.specs.Send.{withCredits}
 use Rattle.delivery.specs.declared.Header.{Header}
 
@@ -89,20 +91,21 @@ unfoldable pub replyWrites : Table → ℕ → ℕ → ReceiveFields → ℕ →
 replyWrites t tile ep g i s r j h = arrival s r j ∷ creditReturned t s h ∷ replyGone tile g i ∷ slotFreed tile ep g i ∷ []
 
 -- from the delivery on, to slot i of g by the reply endpoint s
-unfoldable pub responseOf : Board → Table → List ℕ → ℕ → ℕ → ReceiveFields → ℕ → SendFields → Registers → Command
-responseOf b t bs tile ep g i s a =
-    delivered b t s a (λ r j.
-    does (replyWrites t tile ep g i s r j (response tile ep s a)) (messageTo b bs tile a s r j (response tile ep s a)) (a .arg1))
+unfoldable pub responseOf : Board → Table → List ℕ → List ℕ → ℕ → ℕ → ReceiveFields → ℕ → SendFields → Registers → Command
+responseOf b t sh bs tile ep g i s a =
+    delivered b t sh s a (λ r j.
+    does (replyWrites t tile ep g i s r j (response tile ep s a)) (messageTo b bs tile a s r j (response tile ep s a)) (a .arg1)
+    noting Came (arrivalOf s r) (hasBit (g .unread) i))
 
 -- from slot i of g on
-unfoldable pub answerOf : Board → Table → List ℕ → ℕ → ℕ → ReceiveFields → ℕ → Registers → Command
-answerOf b t bs tile ep g i a =
+unfoldable pub answerOf : Board → Table → List ℕ → List ℕ → ℕ → ℕ → ReceiveFields → ℕ → Registers → Command
+answerOf b t sh bs tile ep g i a =
     send endpointAt t tile (g .«rpl_eps» + i) or NoSep gives λ s.
     replyChecks b tile s a ▸▸
-    responseOf b t bs tile ep g i s a
+    responseOf b t sh bs tile ep g i s a
 
-unfoldable pub REPLY : Board → Table → List ℕ → ℕ → ℕ → ℕ → Registers → Command
-REPLY b t bs own tile ep a =
+unfoldable pub REPLY : Board → Table → List ℕ → List ℕ → ℕ → ℕ → ℕ → Registers → Command
+REPLY b t sh bs own tile ep a =
     receive endpointAt t tile ep or NoRep gives λ g.
     fromChecks own g a ▸▸
-    answerOf b t bs tile ep g (slotNamed g (a .arg0)) a
+    answerOf b t sh bs tile ep g (slotNamed g (a .arg0)) a

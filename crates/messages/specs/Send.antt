@@ -1,9 +1,10 @@
 -- SEND: not SEND 2; reply set 5; act 4; 19, 9, 23 and the page rule; if arg0 is not 65535, that endpoint on the own tile must be a
 -- receive endpoint, otherwise 3 (its act is not looked at); local 14; cur_crd 0 gives 10. Then delivery. On success, unless cur_crd
 -- is 63, the record read at the start is written back with cur_crd one lower.
+-- The message that came is noted at the receiver's tile.
 -- Mind: the local range is checked for size 0 too; a refused SEND takes no credit.
 use Prim.Native.Nat.{ℕ, _+_, _-_}
-use mathlib.Core.Bool.{Bool, true, not, _&&_}
+use mathlib.Core.Bool.{Bool, true, false, not, _&&_}
 use mathlib.Core.List.{List, [], _∷_}
 use lib.Dec.{eqb}
 use Rattle.numbers.specs.Choice.{_gives_else_}
@@ -14,11 +15,12 @@ use Rattle.endpoint.specs.declared.SendFields.{SendFields}
 use Rattle.endpoint.specs.declared.ReceiveFields.{ReceiveFields}
 use Rattle.endpoint.specs.declared.Endpoint.the-variants.{Send}
 use Rattle.table.specs.Table.{Table, place, endpointAt}
+use Rattle.sharing.specs.declared.Note.the-variants.{Came}
 use Rattle.command.specs.Checks.{Check, _⇒_, _then_}
-use Rattle.command.specs.Command.{Command, Write, _⇐_to_, does, _▸▸_, send_or_gives_}
+use Rattle.command.specs.Command.{Command, Write, _⇐_to_, does, _noting_, _▸▸_, send_or_gives_}
 use Rattle.command.specs.Local.{outside}
 use Rattle.command.specs.declared.Registers.{Registers}
-use Rattle.delivery.specs.Delivery.{messageChecks, delivered, arrival, messageTo}
+use Rattle.delivery.specs.Delivery.{messageChecks, delivered, arrival, arrivalOf, messageTo}
 use Rattle.delivery.specs.declared.Header.{Header}
 
 -- the payload lies in memory, and a credit is left
@@ -104,13 +106,14 @@ unfoldable pub sendWrites : ℕ → ℕ → SendFields → ReceiveFields → ℕ
 sendWrites tile ep s r i h = arrival s r i ∷ replyPlaced s r i h ∷ creditSpent tile ep s ∷ []
 
 -- from the delivery on
-unfoldable pub requestOf : Board → Table → List ℕ → ℕ → ℕ → SendFields → Registers → Command
-requestOf b t bs tile ep s a =
-    delivered b t s a (λ r i.
-    does (sendWrites tile ep s r i (request t tile ep s a)) (messageTo b bs tile a s r i (request t tile ep s a)) (a .arg1))
+unfoldable pub requestOf : Board → Table → List ℕ → List ℕ → ℕ → ℕ → SendFields → Registers → Command
+requestOf b t sh bs tile ep s a =
+    delivered b t sh s a (λ r i.
+    does (sendWrites tile ep s r i (request t tile ep s a)) (messageTo b bs tile a s r i (request t tile ep s a)) (a .arg1)
+    noting Came (arrivalOf s r) false)
 
-unfoldable pub SEND : Board → Table → List ℕ → ℕ → ℕ → ℕ → Registers → Command
-SEND b t bs own tile ep a =
+unfoldable pub SEND : Board → Table → List ℕ → List ℕ → ℕ → ℕ → ℕ → Registers → Command
+SEND b t sh bs own tile ep a =
     send endpointAt t tile ep or NoSep gives λ s.
     sendChecks b t own tile s a ▸▸
-    requestOf b t bs tile ep s a
+    requestOf b t sh bs tile ep s a

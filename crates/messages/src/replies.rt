@@ -6,6 +6,7 @@ ghost use lib.ListN.{length};
 ghost use Rattle.board.specs.Board.{bytesOf};
 ghost use Rattle.slots.specs.Slots.{Usable};
 ghost use Rattle.table.specs.Table.{view};
+ghost use Rattle.sharing.specs.Sharing.{Shared};
 ghost use Rattle.command.specs.Checks.{first};
 ghost use Rattle.command.specs.Checked.{Checked};
 ghost use Rattle.command.specs.Outcome.{outcome, written, carried};
@@ -22,6 +23,7 @@ use delivery::Target;
 use endpoint::Endpoint;
 use endpoint::ReceiveFields;
 use endpoint::SendFields;
+use sharing::Note;
 
 // The checks of the receive endpoint, in order.
 fn from_checks(own: u16, g: ReceiveFields, a: Registers) -> Answer
@@ -159,6 +161,7 @@ fn reply_write(
 fn deliver_reply(
     b: Board,
     words: &mut [u64],
+    sharing: &[u64],
     mem: &mut [u8],
     tile: u64,
     ep: u64,
@@ -167,19 +170,22 @@ fn deliver_reply(
     s: SendFields,
     a: Registers,
 ) -> Completion
-    requires { ⌜ Checked b (now words) tile × (length (now mem) ≡ bytesOf b) × Replyable b tile ep g i s a ⌝ }
-    ensures { λ r. ⌜ outcome r (now (words .exit)) (now (mem .exit)) ≡ carried (a .arg1) (now (words .entry)) (now (mem .entry)) (responseOf b (view (now (words .entry))) (now (mem .entry)) tile ep g i s a) ⌝ }
+    requires { ⌜ Checked b (now words) tile × Shared b (now sharing) × (length (now mem) ≡ bytesOf b) × Replyable b tile ep g i s a ⌝ }
+    ensures { λ r. ⌜ outcome r (now (words .exit)) (now (mem .exit)) ≡ carried (a .arg1) (now (words .entry)) (now (mem .entry)) (responseOf b (view (now (words .entry))) (now (sharing .entry)) (now (mem .entry)) tile ep g i s a) ⌝ }
 {
-    match delivery::find_target(b, words, tile, s, a) {
+    match delivery::find_target(b, words, sharing, tile, s, a) {
         Target::Refused(e) => command::refuse(e, a.arg1),
         Target::To { receiver, slot } => {
             let h = response_header(tile, ep, s, a);
             let x = table::endpoint_at(words, s.tgt_tile as usize, s.crd_ep as u64);
             delivery::stow(b, mem, tile, a, s, receiver, slot, h);
             reply_write(words, tile as usize, ep, g, i, s, receiver, slot, h, x);
+            let at = delivery::arrival_of(s, receiver);
+            let read = slots::is_unread(g, i);
             Completion {
                 answer: Answer::None,
                 arg1: a.arg1,
+                note: Note::Came { at, read },
             }
         }
     }
@@ -189,6 +195,7 @@ fn deliver_reply(
 fn reply_to_slot(
     b: Board,
     words: &mut [u64],
+    sharing: &[u64],
     mem: &mut [u8],
     tile: u64,
     ep: u64,
@@ -196,8 +203,8 @@ fn reply_to_slot(
     i: u64,
     a: Registers,
 ) -> Completion
-    requires { ⌜ Checked b (now words) tile × (length (now mem) ≡ bytesOf b) × Named ep g i ⌝ }
-    ensures { λ r. ⌜ outcome r (now (words .exit)) (now (mem .exit)) ≡ carried (a .arg1) (now (words .entry)) (now (mem .entry)) (answerOf b (view (now (words .entry))) (now (mem .entry)) tile ep g i a) ⌝ }
+    requires { ⌜ Checked b (now words) tile × Shared b (now sharing) × (length (now mem) ≡ bytesOf b) × Named ep g i ⌝ }
+    ensures { λ r. ⌜ outcome r (now (words .exit)) (now (mem .exit)) ≡ carried (a .arg1) (now (words .entry)) (now (mem .entry)) (answerOf b (view (now (words .entry))) (now (sharing .entry)) (now (mem .entry)) tile ep g i a) ⌝ }
 {
     let Endpoint::Send(s) = table::endpoint_at(words, tile as usize, g.rpl_eps as u64 + i) else {
         return command::refuse(Error::NoSep, a.arg1);
@@ -206,21 +213,22 @@ fn reply_to_slot(
     if let Answer::Refused(e) = checked {
         return command::refuse(e, a.arg1);
     }
-    deliver_reply(b, words, mem, tile, ep, g, i as u32, s, a)
+    deliver_reply(b, words, sharing, mem, tile, ep, g, i as u32, s, a)
 }
 
 // REPLY.
 pub fn reply(
     b: Board,
     words: &mut [u64],
+    sharing: &[u64],
     mem: &mut [u8],
     own: u16,
     tile: u64,
     ep: u64,
     a: Registers,
 ) -> Completion
-    requires { ⌜ Checked b (now words) tile × (length (now mem) ≡ bytesOf b) ⌝ }
-    ensures { λ r. ⌜ outcome r (now (words .exit)) (now (mem .exit)) ≡ carried (a .arg1) (now (words .entry)) (now (mem .entry)) (REPLY b (view (now (words .entry))) (now (mem .entry)) own tile ep a) ⌝ }
+    requires { ⌜ Checked b (now words) tile × Shared b (now sharing) × (length (now mem) ≡ bytesOf b) ⌝ }
+    ensures { λ r. ⌜ outcome r (now (words .exit)) (now (mem .exit)) ≡ carried (a .arg1) (now (words .entry)) (now (mem .entry)) (REPLY b (view (now (words .entry))) (now (sharing .entry)) (now (mem .entry)) own tile ep a) ⌝ }
 {
     let Endpoint::Receive(g) = table::endpoint_at(words, tile as usize, ep) else {
         return command::refuse(Error::NoRep, a.arg1);
@@ -230,5 +238,5 @@ pub fn reply(
         return command::refuse(e, a.arg1);
     }
     let i = slots::slot_named(g, a.arg0);
-    reply_to_slot(b, words, mem, tile, ep, g, i, a)
+    reply_to_slot(b, words, sharing, mem, tile, ep, g, i, a)
 }

@@ -6,6 +6,7 @@ ghost use lib.ListN.{length};
 ghost use Rattle.board.specs.Board.{bytesOf};
 ghost use Rattle.slots.specs.Slots.{InReach};
 ghost use Rattle.table.specs.Table.{view};
+ghost use Rattle.sharing.specs.Sharing.{Shared};
 ghost use Rattle.command.specs.Checks.{first};
 ghost use Rattle.command.specs.Checked.{Checked};
 ghost use Rattle.command.specs.Outcome.{outcome, written, carried};
@@ -21,6 +22,7 @@ use delivery::Target;
 use endpoint::Endpoint;
 use endpoint::ReceiveFields;
 use endpoint::SendFields;
+use sharing::Note;
 
 // The payload lies in memory, and a credit is left.
 fn last_checks(b: Board, tile: u64, s: SendFields, a: Registers) -> Answer
@@ -201,24 +203,27 @@ fn send_write(
 fn deliver_request(
     b: Board,
     words: &mut [u64],
+    sharing: &[u64],
     mem: &mut [u8],
     tile: u64,
     ep: u64,
     s: SendFields,
     a: Registers,
 ) -> Completion
-    requires { ⌜ Checked b (now words) tile × (length (now mem) ≡ bytesOf b) × Sendable b (view (now words)) tile ep s a ⌝ }
-    ensures { λ r. ⌜ outcome r (now (words .exit)) (now (mem .exit)) ≡ carried (a .arg1) (now (words .entry)) (now (mem .entry)) (requestOf b (view (now (words .entry))) (now (mem .entry)) tile ep s a) ⌝ }
+    requires { ⌜ Checked b (now words) tile × Shared b (now sharing) × (length (now mem) ≡ bytesOf b) × Sendable b (view (now words)) tile ep s a ⌝ }
+    ensures { λ r. ⌜ outcome r (now (words .exit)) (now (mem .exit)) ≡ carried (a .arg1) (now (words .entry)) (now (mem .entry)) (requestOf b (view (now (words .entry))) (now (sharing .entry)) (now (mem .entry)) tile ep s a) ⌝ }
 {
-    match delivery::find_target(b, words, tile, s, a) {
+    match delivery::find_target(b, words, sharing, tile, s, a) {
         Target::Refused(e) => command::refuse(e, a.arg1),
         Target::To { receiver, slot } => {
             let h = request_header(b, words, tile, ep, s, a);
             delivery::stow(b, mem, tile, a, s, receiver, slot, h);
             send_write(words, tile as usize, ep, s, receiver, slot, h);
+            let at = delivery::arrival_of(s, receiver);
             Completion {
                 answer: Answer::None,
                 arg1: a.arg1,
+                note: Note::Came { at, read: false },
             }
         }
     }
@@ -228,14 +233,15 @@ fn deliver_request(
 pub fn send(
     b: Board,
     words: &mut [u64],
+    sharing: &[u64],
     mem: &mut [u8],
     own: u16,
     tile: u64,
     ep: u64,
     a: Registers,
 ) -> Completion
-    requires { ⌜ Checked b (now words) tile × (length (now mem) ≡ bytesOf b) ⌝ }
-    ensures { λ r. ⌜ outcome r (now (words .exit)) (now (mem .exit)) ≡ carried (a .arg1) (now (words .entry)) (now (mem .entry)) (SEND b (view (now (words .entry))) (now (mem .entry)) own tile ep a) ⌝ }
+    requires { ⌜ Checked b (now words) tile × Shared b (now sharing) × (length (now mem) ≡ bytesOf b) ⌝ }
+    ensures { λ r. ⌜ outcome r (now (words .exit)) (now (mem .exit)) ≡ carried (a .arg1) (now (words .entry)) (now (mem .entry)) (SEND b (view (now (words .entry))) (now (sharing .entry)) (now (mem .entry)) own tile ep a) ⌝ }
 {
     let Endpoint::Send(s) = table::endpoint_at(words, tile as usize, ep) else {
         return command::refuse(Error::NoSep, a.arg1);
@@ -244,5 +250,5 @@ pub fn send(
     if let Answer::Refused(e) = checked {
         return command::refuse(e, a.arg1);
     }
-    deliver_request(b, words, mem, tile, ep, s, a)
+    deliver_request(b, words, sharing, mem, tile, ep, s, a)
 }

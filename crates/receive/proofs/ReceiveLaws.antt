@@ -9,13 +9,14 @@ use borrow.Author.Tests.{leb-false}
 use Rattle.answers.specs.declared.Answer.{Answer}
 use Rattle.answers.specs.declared.Answer.the-variants.{None}
 use Rattle.endpoint.specs.declared.ReceiveFields.{ReceiveFields}
+use Rattle.sharing.specs.declared.Note.{Note}
 use Rattle.slots.specs.Slots.{slotsOf, slotNamed, Usable, InReach}
 use Rattle.slots.proofs.SlotFacts.{few-slots, reaches}
 use Rattle.command.specs.Checks.{first}
 use Rattle.command.specs.declared.Registers.{Registers}
 use Rattle.command.proofs.CheckFacts.{passed}
 use Rattle.command.specs.Outcome.{written}
-use Rattle.receive.specs.Ack.{ackChecks, ackWrites}
+use Rattle.receive.specs.Ack.{ackChecks, ackWrites, freeing}
 
 module _ (n : Answer) (own : ℕ) (r : ReceiveFields) (a : Registers) (e : n ≡ first (ackChecks own r a)) (h : n ≡ None) where
   pub ack-slot : slotNamed r (a .arg0) < slotsOf r
@@ -40,3 +41,6 @@ module _ (n : Answer) (own i : ℕ) (r : ReceiveFields) (a : Registers) (e : n �
 -- the slot by the number that a call answered
 pub acked : (us ws : List ℕ) (tile ep i x : ℕ) (r : ReceiveFields) → i ≡ slotNamed r x → us ≡ written ws (ackWrites tile ep r i) → us ≡ written ws (ackWrites tile ep r (slotNamed r x))
 acked us ws tile ep i x r q h = rw (← q) h
+
+pub freed-as : (n : Note) (i x : ℕ) (r : ReceiveFields) → i ≡ slotNamed r x → n ≡ freeing r i → n ≡ freeing r (slotNamed r x)
+freed-as n i x r q h = rw (← q) h

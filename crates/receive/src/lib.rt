@@ -9,7 +9,7 @@ ghost use Rattle.command.specs.Checks.{first};
 ghost use Rattle.command.specs.Checked.{Checked};
 ghost use Rattle.command.specs.Outcome.{outcome, written, carried};
 ghost use Rattle.receive.specs.Fetch.{fetchWrites, FETCH};
-ghost use Rattle.receive.specs.Ack.{ackChecks, ackWrites, ACK_MSG};
+ghost use Rattle.receive.specs.Ack.{ackChecks, ackWrites, freeing, ACK_MSG};
 use answers::Answer;
 use answers::Error;
 use bits::Found;
@@ -18,6 +18,7 @@ use command::Completion;
 use command::Registers;
 use endpoint::Endpoint;
 use endpoint::ReceiveFields;
+use sharing::Note;
 
 // What an accepted FETCH writes.
 fn fetch_write(words: &mut [u64], tile: usize, ep: u64, r: ReceiveFields, i: u32)
@@ -43,6 +44,7 @@ pub fn fetch(b: Board, words: &mut [u64], own: u16, tile: u64, ep: u64, a: Regis
         return Completion {
             answer: Answer::None,
             arg1: 18446744073709551615,
+            note: Note::Nothing,
         };
     };
     fetch_write(words, tile as usize, ep, r, slot);
@@ -50,6 +52,7 @@ pub fn fetch(b: Board, words: &mut [u64], own: u16, tile: u64, ep: u64, a: Regis
     Completion {
         answer: Answer::None,
         arg1,
+        note: Note::Read,
     }
 }
 
@@ -85,6 +88,17 @@ fn ack_write(words: &mut [u64], tile: usize, ep: u64, r: ReceiveFields, i: u32)
     table::store(words, tile, r.rpl_eps as u64 + i as u64, Endpoint::Invalid);
 }
 
+// What freeing slot i notes.
+fn freed(r: ReceiveFields, i: u32) -> Note
+    requires { ⌜ i < 32 ⌝ }
+    ensures { λ n. ⌜ n ≡ freeing r i ⌝ }
+{
+    if slots::is_unread(r, i) {
+        return Note::Read;
+    }
+    Note::Nothing
+}
+
 // ACK_MSG. No byte is touched, so its promise is for any bytes.
 pub fn ack_msg(
     b: Board,
@@ -104,10 +118,12 @@ pub fn ack_msg(
     if let Answer::Refused(e) = checked {
         return command::refuse(e, a.arg1);
     }
-    let i = slots::slot_named(r, a.arg0);
-    ack_write(words, tile as usize, ep, r, i as u32);
+    let i = slots::slot_named(r, a.arg0) as u32;
+    let note = freed(r, i);
+    ack_write(words, tile as usize, ep, r, i);
     Completion {
         answer: Answer::None,
         arg1: a.arg1,
+        note,
     }
 }

@@ -17,7 +17,7 @@ fn second(
     c: Checked,
     buf: &mut [u8],
     words: &mut [u64],
-    acts: &mut [u16],
+    sharing: &mut [u64],
     mem: &mut [u8],
     values: &mut [u64; 40],
     given: &mut [bool; 29],
@@ -31,7 +31,7 @@ fn second(
     if words.len() < tiles * 192 {
         return c.fill;
     }
-    if acts.len() < tiles {
+    if sharing.len() < tiles * 67 {
         return c.fill;
     }
     if mem.len() < bytes {
@@ -44,7 +44,7 @@ fn second(
         b,
         buf,
         &mut words[0..tiles * 192],
-        &mut acts[0..tiles],
+        &mut sharing[0..tiles * 67],
         &mut mem[0..bytes],
         values,
         given,
@@ -58,7 +58,7 @@ fn rehearse(
     mode: Mode,
     buf: &mut [u8],
     words: &mut [u64],
-    acts: &mut [u16],
+    sharing: &mut [u64],
     mem: &mut [u8],
     values: &mut [u64; 40],
     given: &mut [bool; 29],
@@ -68,7 +68,7 @@ fn rehearse(
     }
     let s = &all[0..size];
     let c = checking::check(s, buf, values, given);
-    let fill = second(s, mode, c, buf, words, acts, mem, values, given);
+    let fill = second(s, mode, c, buf, words, sharing, mem, values, given);
     output::flush(buf, fill);
 }
 
@@ -78,13 +78,13 @@ fn go(
     all: &mut [u8; 1048576],
     buf: &mut [u8; 65536],
     words: &mut [u64; 1536],
-    acts: &mut [u16; 8],
+    sharing: &mut [u64; 536],
     mem: &mut [u8; 524288],
     values: &mut [u64; 40],
     given: &mut [bool; 29],
 ) {
     match input::read_all(fd, all) {
-        Input::Got(n) => rehearse(all, n, mode, buf, words, acts, mem, values, given),
+        Input::Got(n) => rehearse(all, n, mode, buf, words, sharing, mem, values, given),
         Input::TooLong => say(b"the script is longer than 1048576 bytes; nothing was run\n"),
         Input::Failed => say(b"the script cannot be read; nothing was run\n"),
     }
@@ -95,7 +95,7 @@ fn start(fd: i32, mode: Mode) {
     let mut all = [0u8; 1048576];
     let mut buf = [0u8; 65536];
     let mut words = [0u64; 1536];
-    let mut acts = [0u16; 8];
+    let mut sharing = [0u64; 536];
     let mut mem = [0u8; 524288];
     let mut values = [0u64; 40];
     let mut given = [false; 29];
@@ -105,7 +105,7 @@ fn start(fd: i32, mode: Mode) {
         &mut all,
         &mut buf,
         &mut words,
-        &mut acts,
+        &mut sharing,
         &mut mem,
         &mut values,
         &mut given,

@@ -29,10 +29,10 @@ pub fn header(buf: &mut [u8], fill: usize) -> usize {
 
 // NAME ENDPOINT KIND, as much of it as the statement has, put together in a text of its own so that it can be filled up.
 fn label(text: &mut [u8; 64], form: usize, v: &[u64; 40]) -> usize {
-    if form == names::WIRING {
-        return name(text, 0, form);
-    }
     if form < names::KINDS {
+        if shapes::operand(form, 0) != b'e' {
+            return name(text, 0, form);
+        }
         let a = name(text, 0, form);
         let b = output::byte(text, a, b' ');
         return output::decimal(text, b, v[shapes::PLACE], 0);

@@ -1,5 +1,6 @@
 // The second pass: each line is read again, and its statement is run.
 mod state;
+mod waits;
 
 use board::Board;
 use language::names;
@@ -32,10 +33,10 @@ fn answering(
     b: Board,
     buf: &mut [u8],
     words: &mut [u64],
-    acts: &[u16],
+    sharing: &mut [u64],
     mem: &mut [u8],
 ) -> State {
-    let a = statements::carry_out(form, v, b, words, acts, mem);
+    let a = statements::carry_out(form, v, b, words, sharing, mem);
     let t = s.answered(form, a);
     if s.whole {
         return t.filled(report::answer_line(buf, t.fill, s.line, form, v, a));
@@ -60,6 +61,19 @@ fn expecting(s: State, v: &[u64; 40], given: &[bool; 29], buf: &mut [u8]) -> Sta
     t.filled(report::failed_line(buf, t.fill, s.line, v, a))
 }
 
+// The open channels, with the activity that runs on each tile.
+fn sheet_of(buf: &mut [u8], fill: usize, b: Board, words: &[u64], sharing: &[u64]) -> usize {
+    let ids = statements::activities(sharing);
+    let n = (b.tiles % 9) as usize;
+    sheet::sheet(buf, fill, b, words, &ids[0..n])
+}
+
+fn drawing_of(buf: &mut [u8], fill: usize, b: Board, words: &[u64], sharing: &[u64]) -> usize {
+    let ids = statements::activities(sharing);
+    let n = (b.tiles % 9) as usize;
+    sheet::drawing(buf, fill, b, words, &ids[0..n])
+}
+
 // What a statement prints that has no answer.
 fn printed(
     form: usize,
@@ -68,7 +82,7 @@ fn printed(
     buf: &mut [u8],
     fill: usize,
     words: &[u64],
-    acts: &[u16],
+    sharing: &[u64],
     mem: &[u8],
 ) -> usize {
     let tile = v[shapes::OF_TILE];
@@ -76,16 +90,10 @@ fn printed(
     match form {
         names::SHOW => sheet::endpoint(buf, fill, tile, place, endpoints::at(words, tile, place)),
         names::DUMP => contents::dump(buf, fill, b, mem, tile, place, v[shapes::COUNT]),
-        names::SHEET => sheet::sheet(buf, fill, b, words, acts),
-        names::DRAWING => sheet::drawing(buf, fill, b, words, acts),
+        names::WAITING => waits::line(buf, fill, b, words, sharing, mem, tile),
+        names::SHEET => sheet_of(buf, fill, b, words, sharing),
+        names::DRAWING => drawing_of(buf, fill, b, words, sharing),
         _ => fill,
-    }
-}
-
-fn set_activity(acts: &mut [u16], tile: u64, id: u64) {
-    let i = tile as usize;
-    if i < acts.len() {
-        acts[i] = (id % 0x10000) as u16;
     }
 }
 
@@ -98,13 +106,13 @@ fn without_answer(
     b: Board,
     buf: &mut [u8],
     words: &[u64],
-    acts: &mut [u16],
+    sharing: &mut [u64],
     mem: &mut [u8],
 ) -> State {
     let tile = v[shapes::OF_TILE];
     match form {
         names::ACTIVITY => {
-            set_activity(acts, tile, v[shapes::ID]);
+            statements::set_activity(sharing, tile, v[shapes::ID]);
             s
         }
         names::BYTES => {
@@ -114,7 +122,7 @@ fn without_answer(
         }
         _ => {
             if s.whole {
-                return s.filled(printed(form, v, b, buf, s.fill, words, acts, mem));
+                return s.filled(printed(form, v, b, buf, s.fill, words, sharing, mem));
             }
             s
         }
@@ -131,29 +139,29 @@ fn statement(
     b: Board,
     buf: &mut [u8],
     words: &mut [u64],
-    acts: &mut [u16],
+    sharing: &mut [u64],
     mem: &mut [u8],
 ) -> State {
     if shapes::answers(form) != b'.' {
-        return answering(s, form, v, b, buf, words, acts, mem);
+        return answering(s, form, v, b, buf, words, sharing, mem);
     }
     if form == names::EXPECT {
         return expecting(s, v, given, buf);
     }
-    without_answer(text, s, form, v, b, buf, words, acts, mem)
+    without_answer(text, s, form, v, b, buf, words, sharing, mem)
 }
 
 // What is printed after the last statement.
-fn finish(mode: Mode, s: State, b: Board, buf: &mut [u8], words: &[u64], acts: &[u16]) -> usize {
+fn finish(mode: Mode, s: State, b: Board, buf: &mut [u8], words: &[u64], sharing: &[u64]) -> usize {
     let t = s.tally();
     match mode {
         Mode::Whole => report::last_line(buf, s.fill, t),
         Mode::Sheet => {
-            let at = sheet::sheet(buf, s.fill, b, words, acts);
+            let at = sheet_of(buf, s.fill, b, words, sharing);
             report::last_line(buf, at, t)
         }
         Mode::Drawing => {
-            let at = sheet::drawing(buf, s.fill, b, words, acts);
+            let at = drawing_of(buf, s.fill, b, words, sharing);
             let note = output::text(buf, at, b"// ");
             report::last_line(buf, note, t)
         }
@@ -174,7 +182,7 @@ fn next_line(
     b: Board,
     buf: &mut [u8],
     words: &mut [u64],
-    acts: &mut [u16],
+    sharing: &mut [u64],
     mem: &mut [u8],
     v: &mut [u64; 40],
     given: &mut [bool; 29],
@@ -184,7 +192,7 @@ fn next_line(
     match script::parse(text, c, v, given) {
         Line::Do(form) => {
             let t = s.in_context(script::after(c, form, v));
-            statement(text, t, form, v, given, b, buf, words, acts, mem)
+            statement(text, t, form, v, given, b, buf, words, sharing, mem)
         }
         _ => s,
     }
@@ -198,7 +206,7 @@ pub fn run(
     b: Board,
     buf: &mut [u8],
     words: &mut [u64],
-    acts: &mut [u16],
+    sharing: &mut [u64],
     mem: &mut [u8],
     values: &mut [u64; 40],
     given: &mut [bool; 29],
@@ -209,8 +217,8 @@ pub fn run(
     while at < source.len() {
         let end = lines::line_after(source, at);
         let text = &source[at..end];
-        s = next_line(text, s, b, buf, words, acts, mem, values, given);
+        s = next_line(text, s, b, buf, words, sharing, mem, values, given);
         at = end;
     }
-    finish(mode, s, b, buf, words, acts)
+    finish(mode, s, b, buf, words, sharing)
 }

@@ -194,6 +194,7 @@ fn operand(line: &[u8], at: usize, letter: u8, c: Context, values: &mut [u64; 40
     let room = span(values[shapes::PLACE], c.memory);
     match letter {
         b't' => alone(line, at, 0, tile, wants::TILE, values, shapes::OF_TILE),
+        b'p' => alone(line, at, 0, ANY, wants::TILE, values, shapes::OF_TILE),
         b'e' => pair(line, at, ANY, ANY, wants::ENDPOINT, values),
         b's' => pair(line, at, tile, 63, wants::ENDPOINT, values),
         b'a' => pair(line, at, tile, address, wants::ADDRESS, values),

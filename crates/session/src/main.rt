@@ -13,6 +13,9 @@ use libc::STDOUT_FILENO;
 // The words that the host lends: three for each of 64 endpoints of two tiles.
 type Table = [u64; 384];
 
+// The sharing records that the host lends, of both tiles.
+type Sharing = [u64; 134];
+
 // The bytes that the host lends, of both tiles.
 type Memory = [u8; 8192];
 
@@ -77,8 +80,8 @@ fn put(words: &mut [u64], mem: &[u8], tile: u64, ep: u64, e: Endpoint) {
         say(b"not acceptable\n");
         return;
     };
-    let acts = [5u16, 5];
-    let Answer::None = machine::configure(BOARD, words, &acts, mem, tile, ep, w) else {
+    let sharing = [0u64; 134];
+    let Answer::None = machine::configure(BOARD, words, &sharing, mem, tile, ep, w) else {
         say(b"not configured\n");
         return;
     };
@@ -137,6 +140,7 @@ fn registers(arg0: u64, size: u64, arg1: u64) -> Registers {
 // Step n: one command of a tile, and its line.
 fn step(
     words: &mut Table,
+    sharing: &mut Sharing,
     mem: &mut Memory,
     n: u64,
     tile: u64,
@@ -144,27 +148,29 @@ fn step(
     ep: u64,
     a: Registers,
 ) {
-    let acts = [5u16, 5];
-    let done = machine::carry_out(BOARD, words, &acts, mem, tile, opcode, ep, a);
+    let done = machine::carry_out(BOARD, words, sharing, mem, tile, opcode, ep, a);
     line(n, done, words);
 }
 
 // The endpoints of document 01, then its nine commands.
-fn run(words: &mut Table, mem: &mut Memory) {
+fn run(words: &mut Table, sharing: &mut Sharing, mem: &mut Memory) {
     set_up(words, mem);
-    step(words, mem, 1, 0, SEND, 4, registers(6, 16, 77));
-    step(words, mem, 2, 0, SEND, 4, registers(65535, 16, 77));
-    step(words, mem, 3, 0, SEND, 4, registers(65535, 16, 77));
-    step(words, mem, 4, 1, FETCH, 7, registers(0, 0, 0));
-    step(words, mem, 5, 1, REPLY, 7, registers(0, 32, 0));
-    step(words, mem, 6, 1, REPLY, 7, registers(256, 32, 0));
-    step(words, mem, 7, 1, ACK_MSG, 7, registers(256, 0, 0));
-    step(words, mem, 8, 0, FETCH, 6, registers(0, 0, 0));
-    step(words, mem, 9, 0, FETCH, 6, registers(0, 0, 0));
+    sharing[0] = 5;
+    sharing[67] = 5;
+    step(words, sharing, mem, 1, 0, SEND, 4, registers(6, 16, 77));
+    step(words, sharing, mem, 2, 0, SEND, 4, registers(65535, 16, 77));
+    step(words, sharing, mem, 3, 0, SEND, 4, registers(65535, 16, 77));
+    step(words, sharing, mem, 4, 1, FETCH, 7, registers(0, 0, 0));
+    step(words, sharing, mem, 5, 1, REPLY, 7, registers(0, 32, 0));
+    step(words, sharing, mem, 6, 1, REPLY, 7, registers(256, 32, 0));
+    step(words, sharing, mem, 7, 1, ACK_MSG, 7, registers(256, 0, 0));
+    step(words, sharing, mem, 8, 0, FETCH, 6, registers(0, 0, 0));
+    step(words, sharing, mem, 9, 0, FETCH, 6, registers(0, 0, 0));
 }
 
 fn main() {
     let mut words = [0u64; 384];
+    let mut sharing = [0u64; 134];
     let mut mem = [0u8; 8192];
-    run(&mut words, &mut mem);
+    run(&mut words, &mut sharing, &mut mem);
 }

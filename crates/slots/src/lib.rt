@@ -2,6 +2,7 @@
 // of one slot (document 01, "The commands, checks in order"). FETCH, ACK_MSG, REPLY and the delivery share them.
 ghost use mathlib.Core.Path.{_≡_};
 ghost use Prim.Native.Nat.{_*_, _^_, _<_};
+ghost use Rattle.bits.specs.Bits.{hasBit};
 ghost use Rattle.slots.specs.Slots.{slotsOf, freeSlot, unreadSlot, slotNamed, rangePast, rangeBad, filled, fetched, cleared, Usable};
 use bits::Found;
 use endpoint::ReceiveFields;
@@ -36,6 +37,14 @@ pub fn slot_named(r: ReceiveFields, arg0: u64) -> u64
     ensures { λ i. ⌜ i ≡ slotNamed r arg0 ⌝ }
 {
     arg0 >> r.slot_size
+}
+
+// Is slot i's message unread?
+pub fn is_unread(r: ReceiveFields, i: u32) -> bool
+    requires { ⌜ i < 32 ⌝ }
+    ensures { λ f. ⌜ f ≡ hasBit (r .unread) i ⌝ }
+{
+    bits::test(r.unread, i)
 }
 
 // Where slot i's message starts in the buffer.

@@ -33,7 +33,7 @@ fn command(
     v: &[u64; 40],
     b: Board,
     words: &mut [u64],
-    acts: &[u16],
+    sharing: &mut [u64],
     mem: &mut [u8],
 ) -> Answered {
     let a = Registers {
@@ -46,7 +46,7 @@ fn command(
     let done = machine::carry_out(
         b,
         words,
-        acts,
+        sharing,
         mem,
         v[shapes::OF_TILE],
         code,
@@ -76,21 +76,21 @@ fn configure(
     v: &[u64; 40],
     b: Board,
     words: &mut [u64],
-    acts: &[u16],
+    sharing: &[u64],
     mem: &[u8],
 ) -> Answered {
     let tile = v[shapes::OF_TILE];
     let ep = v[shapes::PLACE];
     if form == names::INVALIDATE {
-        return named(machine::invalidate(b, words, acts, mem, tile, ep), 0);
+        return named(machine::invalidate(b, words, sharing, mem, tile, ep), 0);
     }
     let w = words_given(form, v);
-    named(machine::configure(b, words, acts, mem, tile, ep, w), 0)
+    named(machine::configure(b, words, sharing, mem, tile, ep, w), 0)
 }
 
 // The wiring check.
-fn check_wiring(b: Board, words: &[u64], acts: &[u16], mem: &[u8]) -> Answered {
-    match wiring::check_wiring(b, words, acts, mem) {
+fn check_wiring(b: Board, words: &[u64], sharing: &[u64], mem: &[u8]) -> Answered {
+    match wiring::check_wiring(b, words, sharing, mem) {
         Wiring::Yes => Answered {
             number: 0,
             row: names::YES,
@@ -105,18 +105,90 @@ fn check_wiring(b: Board, words: &[u64], acts: &[u16], mem: &[u8]) -> Answered {
     }
 }
 
+// A privileged command of a tile, by its name or by the opcode's number.
+fn privileged(
+    form: usize,
+    v: &[u64; 40],
+    b: Board,
+    words: &[u64],
+    sharing: &mut [u64],
+    mem: &[u8],
+) -> Answered {
+    let opcode = if form == names::XCHG_ACT {
+        4
+    } else {
+        v[shapes::OPCODE]
+    };
+    let tile = v[shapes::OF_TILE];
+    let done = machine::privileged(
+        b,
+        words,
+        sharing,
+        mem,
+        tile,
+        opcode,
+        v[shapes::ARG0],
+        v[shapes::ARG1],
+    );
+    let answer = done.answer;
+    named(answer, done.arg1)
+}
+
+// A response from a tile.
+fn respond(v: &[u64; 40], b: Board, words: &[u64], sharing: &mut [u64], mem: &[u8]) -> Answered {
+    let done = machine::respond(b, words, sharing, mem, v[shapes::OF_TILE]);
+    let answer = done.answer;
+    named(answer, 0)
+}
+
 // A statement that answers.
 pub fn carry_out(
     form: usize,
     v: &[u64; 40],
     b: Board,
     words: &mut [u64],
-    acts: &[u16],
+    sharing: &mut [u64],
     mem: &mut [u8],
 ) -> Answered {
-    match shapes::answers(form) {
-        b'c' => command(form, v, b, words, acts, mem),
-        b'w' => check_wiring(b, words, acts, mem),
-        _ => configure(form, v, b, words, acts, mem),
+    match form {
+        names::XCHG_ACT | names::PRIVILEGED => privileged(form, v, b, words, sharing, mem),
+        names::RESPOND => respond(v, b, words, sharing, mem),
+        names::WIRING => check_wiring(b, words, sharing, mem),
+        names::IDLE..=names::COMMAND => command(form, v, b, words, sharing, mem),
+        _ => configure(form, v, b, words, sharing, mem),
+    }
+}
+
+// ---- the sharing of the tiles
+
+fn id_of(sharing: &[u64], tile: usize) -> u16 {
+    if tile < 8 {
+        let i = tile * 67;
+        if i < sharing.len() {
+            return (sharing[i] % 0x10000) as u16;
+        }
+    }
+    0
+}
+
+// The activity of each tile; 0 for those that the board does not have.
+pub fn activities(sharing: &[u64]) -> [u16; 8] {
+    [
+        id_of(sharing, 0),
+        id_of(sharing, 1),
+        id_of(sharing, 2),
+        id_of(sharing, 3),
+        id_of(sharing, 4),
+        id_of(sharing, 5),
+        id_of(sharing, 6),
+        id_of(sharing, 7),
+    ]
+}
+
+// A tile's activity is this one from now on, with no unread message.
+pub fn set_activity(sharing: &mut [u64], tile: u64, id: u64) {
+    let i = ((tile % 8) * 67) as usize;
+    if i < sharing.len() {
+        sharing[i] = id % 0x10000;
     }
 }

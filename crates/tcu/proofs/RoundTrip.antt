@@ -198,8 +198,8 @@ pub only : statements.Only
 unfolding returned turned
 only =
     record {
-      calls = λ o n k x y us vs bs cs p q.
+      calls = λ o n k x y us vs rs ss bs cs p q.
           let e = p ∙ sym q in
-          (ap (λ (r : Returned). r .number) e, ap (λ (r : Returned). r .arg1) e, ap (λ (r : Returned). r .words) e, ap (λ (r : Returned). r .bytes) e);
+          (ap (λ (r : Returned). r .number) e, ap (λ (r : Returned). r .arg1) e, ap (λ (r : Returned). r .words) e, ap (λ (r : Returned). r .sharing) e, ap (λ (r : Returned). r .bytes) e);
       lists = λ o n k us vs p q. (ap numbered (p ∙ sym q), ap listed (p ∙ sym q));
     }

@@ -14,7 +14,9 @@ use Rattle.endpoint.specs.Turning.{unpackOf, packOf}
 use Rattle.endpoint.specs.declared.Words.{Words}
 use Rattle.endpoint.specs.declared.Unpacked.{Unpacked}
 use Rattle.endpoint.specs.declared.Packed.{Packed}
-use Rattle.command.specs.Outcome.{Outcome}
+use Rattle.sharing.specs.declared.Waiting.{Waiting}
+use Rattle.machine.specs.Machine.{Left}
+use Rattle.machine.specs.declared.Waits.{Waits}
 use Rattle.command.specs.declared.Registers.{Registers}
 use Rattle.wiring.specs.declared.Wiring.{Wiring}
 use Rattle.tcu.specs.Fields.{fieldValues, Named, names, nothing, endpointOf}
@@ -29,18 +31,19 @@ registers arg0 addr size arg1 = record { arg0 = arg0; addr = addr; size = size; 
 abbrev pub three : (first second third : ℕ) → Words
 three first second third = record { first = first; second = second; third = third }
 
--- ---- a call of the machine: the number, ARG_1, the words and the bytes
+-- ---- a call of the machine: the number, ARG_1, the words, the sharing records and the bytes
 pub record Returned : Type 0 where
   pub number : ℕ
   pub arg1 : ℕ
   pub words : List ℕ
+  pub sharing : List ℕ
   pub bytes : List ℕ
 
-unfoldable pub returned : ℕ → ℕ → List ℕ → List ℕ → Returned
-returned n x ws bs = record { number = n; arg1 = x; words = ws; bytes = bs }
+unfoldable pub returned : ℕ → ℕ → List ℕ → List ℕ → List ℕ → Returned
+returned n x ws sh bs = record { number = n; arg1 = x; words = ws; sharing = sh; bytes = bs }
 
-unfoldable pub inC : Outcome → Returned
-inC o = returned (numberOf (o .completion .answer)) (o .completion .arg1) (o .words) (o .bytes)
+unfoldable pub inC : Left → Returned
+inC o = returned (numberOf (o .completion .answer)) (o .completion .arg1) (o .words) (o .sharing) (o .bytes)
 
 -- ---- the wiring check: 1 for yes and 0 for no
 abbrev pub wiringInC : Wiring → ℕ
@@ -55,6 +58,18 @@ pub record Turned : Type 0 where
 
 unfoldable pub turned : ℕ → List ℕ → Turned
 turned n l = record { number = n; list = l }
+
+-- what is waiting into three numbers, l before: how many requests wait, and the oldest's endpoint and activity. BAD_MACHINE where there
+-- are not three
+abbrev pub numbersOf : Waiting → List ℕ
+numbersOf w = w .count ∷ w .ep ∷ w .act ∷ []
+
+unfoldable pub waitsInC : List ℕ → Waits → Turned
+waitsInC l (Waits.So w) = turned 0 (numbersOf w)
+waitsInC l (Waits.Refused e) = turned (codeOf e) l
+
+unfoldable pub waitingInC : List ℕ → Waits → Turned
+waitingInC l x = eqb (length l) 3 gives waitsInC l x else turned (codeOf BadMachine) l
 
 -- the words w into a list, l before: BAD_MACHINE where it has not eleven numbers
 unfoldable pub fieldsInC : List ℕ → Unpacked → Turned

@@ -25,5 +25,5 @@ RoundTrip =
 
 -- no second answer or end state fits
 pub record Only : Type 0 where
-  pub calls : (o : Returned) (n k x y : ℕ) (us vs bs cs : List ℕ) → returned n x us bs ≡ o → returned k y vs cs ≡ o → (n ≡ k) × (x ≡ y) × (us ≡ vs) × (bs ≡ cs)
+  pub calls : (o : Returned) (n k x y : ℕ) (us vs rs ss bs cs : List ℕ) → returned n x us rs bs ≡ o → returned k y vs ss cs ≡ o → (n ≡ k) × (x ≡ y) × (us ≡ vs) × (rs ≡ ss) × (bs ≡ cs)
   pub lists : (o : Turned) (n k : ℕ) (us vs : List ℕ) → turned n us ≡ o → turned k vs ≡ o → (n ≡ k) × (us ≡ vs)

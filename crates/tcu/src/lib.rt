@@ -2,15 +2,16 @@
 // document 01's number for the answer (`specs/Interface.antt`).
 ghost use mathlib.Core.Path.{_≡_};
 ghost use Rattle.command.specs.Outcome.{carried};
-ghost use Rattle.machine.specs.Machine.{commandOf, configureOf, invalidateOf};
+ghost use Rattle.machine.specs.Machine.{commandOf, configureOf, invalidateOf, privilegedOf, respondOf, waitsOf, leftBy};
 ghost use Rattle.wiring.specs.Wiring.{wiringOf};
-ghost use Rattle.tcu.specs.Interface.{board, registers, three, returned, inC, wiringInC, turned, unpackInC, packInC};
+ghost use Rattle.tcu.specs.Interface.{board, registers, three, returned, inC, wiringInC, turned, waitingInC, unpackInC, packInC};
 use answers::Error;
 use board::Board;
 use command::Registers;
 use endpoint::Packed;
 use endpoint::Unpacked;
 use endpoint::Words;
+use machine::Waits;
 use wiring::Wiring;
 
 mod lists;
@@ -21,7 +22,7 @@ pub extern "C" fn tcu_command(
     tiles: u64,
     memory: u64,
     words: &mut [u64],
-    acts: &[u16],
+    sharing: &mut [u64],
     mem: &mut [u8],
     tile: u64,
     opcode: u64,
@@ -31,13 +32,13 @@ pub extern "C" fn tcu_command(
     data_size: u64,
     arg1: &mut u64,
 ) -> u32
-    ensures { λ r. ⌜ returned r (now (arg1 .exit)) (now (words .exit)) (now (mem .exit)) ≡ inC (carried (now (arg1 .entry)) (now (words .entry)) (now (mem .entry)) (commandOf (board tiles memory) (now (words .entry)) (now (acts .entry)) (now (mem .entry)) tile opcode endpoint (registers arg0 «data_addr» «data_size» (now (arg1 .entry))))) ⌝ }
+    ensures { λ r. ⌜ returned r (now (arg1 .exit)) (now (words .exit)) (now (sharing .exit)) (now (mem .exit)) ≡ inC (leftBy (now (sharing .entry)) tile (carried (now (arg1 .entry)) (now (words .entry)) (now (mem .entry)) (commandOf (board tiles memory) (now (words .entry)) (now (sharing .entry)) (now (mem .entry)) tile opcode endpoint (registers arg0 «data_addr» «data_size» (now (arg1 .entry)))))) ⌝ }
 {
     let given = *arg1;
     let done = machine::carry_out(
         Board { tiles, memory },
         words,
-        acts,
+        sharing,
         mem,
         tile,
         opcode,
@@ -60,7 +61,7 @@ pub extern "C" fn tcu_configure(
     tiles: u64,
     memory: u64,
     words: &mut [u64],
-    acts: &[u16],
+    sharing: &[u64],
     mem: &[u8],
     tile: u64,
     endpoint: u64,
@@ -68,12 +69,12 @@ pub extern "C" fn tcu_configure(
     second: u64,
     third: u64,
 ) -> u32
-    ensures { λ r. ⌜ returned r 0 (now (words .exit)) (now (mem .entry)) ≡ inC (carried 0 (now (words .entry)) (now (mem .entry)) (configureOf (board tiles memory) (now (words .entry)) (now (acts .entry)) (now (mem .entry)) tile endpoint (three first second third))) ⌝ }
+    ensures { λ r. ⌜ returned r 0 (now (words .exit)) (now (sharing .entry)) (now (mem .entry)) ≡ inC (leftBy (now (sharing .entry)) tile (carried 0 (now (words .entry)) (now (mem .entry)) (configureOf (board tiles memory) (now (words .entry)) (now (sharing .entry)) (now (mem .entry)) tile endpoint (three first second third)))) ⌝ }
 {
     let answer = machine::configure(
         Board { tiles, memory },
         words,
-        acts,
+        sharing,
         mem,
         tile,
         endpoint,
@@ -92,15 +93,94 @@ pub extern "C" fn tcu_invalidate(
     tiles: u64,
     memory: u64,
     words: &mut [u64],
-    acts: &[u16],
+    sharing: &[u64],
     mem: &[u8],
     tile: u64,
     endpoint: u64,
 ) -> u32
-    ensures { λ r. ⌜ returned r 0 (now (words .exit)) (now (mem .entry)) ≡ inC (carried 0 (now (words .entry)) (now (mem .entry)) (invalidateOf (board tiles memory) (now (words .entry)) (now (acts .entry)) (now (mem .entry)) tile endpoint)) ⌝ }
+    ensures { λ r. ⌜ returned r 0 (now (words .exit)) (now (sharing .entry)) (now (mem .entry)) ≡ inC (leftBy (now (sharing .entry)) tile (carried 0 (now (words .entry)) (now (mem .entry)) (invalidateOf (board tiles memory) (now (words .entry)) (now (sharing .entry)) (now (mem .entry)) tile endpoint))) ⌝ }
 {
-    let answer = machine::invalidate(Board { tiles, memory }, words, acts, mem, tile, endpoint);
+    let answer = machine::invalidate(Board { tiles, memory }, words, sharing, mem, tile, endpoint);
     answers::number(answer)
+}
+
+// Carries out one privileged command of a tile. The second argument comes back where it was given.
+#[no_mangle]
+pub extern "C" fn tcu_privileged(
+    tiles: u64,
+    memory: u64,
+    words: &[u64],
+    sharing: &mut [u64],
+    mem: &[u8],
+    tile: u64,
+    opcode: u64,
+    arg0: u64,
+    arg1: &mut u64,
+) -> u32
+    ensures { λ r. ⌜ returned r (now (arg1 .exit)) (now (words .entry)) (now (sharing .exit)) (now (mem .entry)) ≡ inC (leftBy (now (sharing .entry)) tile (carried (now (arg1 .entry)) (now (words .entry)) (now (mem .entry)) (privilegedOf (board tiles memory) (now (words .entry)) (now (sharing .entry)) (now (mem .entry)) tile opcode arg0 (now (arg1 .entry))))) ⌝ }
+{
+    let given = *arg1;
+    let handed = machine::privileged(
+        Board { tiles, memory },
+        words,
+        sharing,
+        mem,
+        tile,
+        opcode,
+        arg0,
+        given,
+    );
+    *arg1 = handed.arg1;
+    let answer = handed.answer;
+    answers::number(answer)
+}
+
+// A tile has seen its oldest request.
+#[no_mangle]
+pub extern "C" fn tcu_respond(
+    tiles: u64,
+    memory: u64,
+    words: &[u64],
+    sharing: &mut [u64],
+    mem: &[u8],
+    tile: u64,
+) -> u32
+    ensures { λ r. ⌜ returned r 0 (now (words .entry)) (now (sharing .exit)) (now (mem .entry)) ≡ inC (leftBy (now (sharing .entry)) tile (carried 0 (now (words .entry)) (now (mem .entry)) (respondOf (board tiles memory) (now (words .entry)) (now (sharing .entry)) (now (mem .entry)) tile))) ⌝ }
+{
+    let done = machine::respond(Board { tiles, memory }, words, sharing, mem, tile);
+    let answer = done.answer;
+    answers::number(answer)
+}
+
+// Tells what is waiting at a tile, in three numbers.
+#[no_mangle]
+pub extern "C" fn tcu_waiting(
+    tiles: u64,
+    memory: u64,
+    words: &[u64],
+    sharing: &[u64],
+    mem: &[u8],
+    tile: u64,
+    waiting: &mut [u64],
+) -> u32
+    ensures { λ r. ⌜ turned r (now (waiting .exit)) ≡ waitingInC (now (waiting .entry)) (waitsOf (board tiles memory) (now (words .entry)) (now (sharing .entry)) (now (mem .entry)) tile) ⌝ }
+{
+    if waiting.len() != 3 {
+        return answers::code(Error::BadMachine);
+    }
+    let found = machine::waiting_at(Board { tiles, memory }, words, sharing, mem, tile);
+    match found {
+        Waits::So(w) => {
+            let three = Words {
+                first: w.count,
+                second: w.ep as u64,
+                third: w.act as u64,
+            };
+            table::write_nth(waiting, 0, three);
+            0
+        }
+        Waits::Refused(e) => answers::code(e),
+    }
 }
 
 // Tells whether the wiring is sound.
@@ -109,12 +189,12 @@ pub extern "C" fn tcu_wiring(
     tiles: u64,
     memory: u64,
     words: &[u64],
-    acts: &[u16],
+    sharing: &[u64],
     mem: &[u8],
 ) -> u32
-    ensures { λ r. ⌜ r ≡ wiringInC (wiringOf (board tiles memory) (now (words .entry)) (now (acts .entry)) (now (mem .entry))) ⌝ }
+    ensures { λ r. ⌜ r ≡ wiringInC (wiringOf (board tiles memory) (now (words .entry)) (now (sharing .entry)) (now (mem .entry))) ⌝ }
 {
-    let found = wiring::check_wiring(Board { tiles, memory }, words, acts, mem);
+    let found = wiring::check_wiring(Board { tiles, memory }, words, sharing, mem);
     match found {
         Wiring::Yes => 1,
         Wiring::No => 0,

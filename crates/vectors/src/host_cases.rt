@@ -96,8 +96,8 @@ const TYPE_4: Words = Words {
 // The answer to a configure on words and bytes that are zero.
 fn configured(words: &mut Table, mem: &Memory, p: Place, w: Words) -> Answer {
     let board = p.board;
-    let acts = [5u16, 5];
-    machine::configure(board, words, &acts, mem, p.tile, p.ep, w)
+    let sharing = [0u64; 134];
+    machine::configure(board, words, &sharing, mem, p.tile, p.ep, w)
 }
 
 fn configure(what: &[u8], should: u64, p: Place, w: Words) {
@@ -123,8 +123,8 @@ pub fn configure_cases() {
 // The answer to an invalidate on words and bytes that are zero.
 fn invalidated(words: &mut Table, mem: &Memory, p: Place) -> Answer {
     let board = p.board;
-    let acts = [5u16, 5];
-    machine::invalidate(board, words, &acts, mem, p.tile, p.ep)
+    let sharing = [0u64; 134];
+    machine::invalidate(board, words, &sharing, mem, p.tile, p.ep)
 }
 
 fn invalidate(what: &[u8], should: u64, p: Place) {

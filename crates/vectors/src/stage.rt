@@ -19,6 +19,9 @@ use endpoint::ReceiveFields;
 // The words that the host lends: three for each of 64 endpoints of two tiles.
 pub type Table = [u64; 384];
 
+// The sharing records that the host lends, of both tiles.
+pub type Sharing = [u64; 134];
+
 // The bytes that the host lends, of both tiles.
 pub type Memory = [u8; 16384];
 
@@ -103,8 +106,8 @@ fn put(words: &mut [u64], mem: &[u8], tile: u64, ep: u64, e: Endpoint) {
         say(b"not acceptable: ");
         return;
     };
-    let acts = [5u16, 5];
-    let Answer::None = machine::configure(BOARD, words, &acts, mem, tile, ep, w) else {
+    let sharing = [0u64; 134];
+    let Answer::None = machine::configure(BOARD, words, &sharing, mem, tile, ep, w) else {
         say(b"not configured: ");
         return;
     };
@@ -126,16 +129,37 @@ fn set_up(words: &mut Table, mem: &Memory, acting: Endpoint, reply: Endpoint) {
     put_receiver(words, mem, 1, PAST as u64, with_rpl_eps(r, 63));
 }
 
-// Sets the machine up on lent words and bytes that are zero, and carries the command out.
-pub fn play(words: &mut Table, mem: &mut Memory, s: Stage, c: Command) -> Completion {
+// Sets the machine up on lent words, records and bytes that are zero, with activity 5 on both tiles, and carries the command out.
+fn play_shared(
+    words: &mut Table,
+    sharing: &mut Sharing,
+    mem: &mut Memory,
+    s: Stage,
+    c: Command,
+) -> Completion {
     let acting = s.acting;
     let reply = s.reply;
     let board = c.board;
     let registers = c.registers;
-    let acts = [5u16, 5];
     set_up(words, mem, acting, reply);
     words[381] = s.stray;
-    machine::carry_out(board, words, &acts, mem, c.tile, c.opcode, c.ep, registers)
+    sharing[0] = 5;
+    sharing[67] = 5;
+    machine::carry_out(
+        board,
+        words,
+        sharing,
+        mem,
+        c.tile,
+        c.opcode,
+        c.ep,
+        registers,
+    )
+}
+
+pub fn play(words: &mut Table, mem: &mut Memory, s: Stage, c: Command) -> Completion {
+    let mut sharing = [0u64; 134];
+    play_shared(words, &mut sharing, mem, s, c)
 }
 
 // The name of a command, as a column.

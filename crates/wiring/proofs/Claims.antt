@@ -1,12 +1,13 @@
 -- The invariant gives the three claims of demand 3. Assumes nothing.
 use Prim.Native.Nat.{ℕ, zero, suc, _+_, _*_, _≤_, _<_}
-use mathlib.Core.Bool.{false}
+use mathlib.Core.Bool.{true, false, not}
 use mathlib.Core.List.{List}
-use mathlib.Core.Logic.{_≢_}
+use mathlib.Core.Logic.{_≢_, _⊎_, inl, inr, ⊎-elim}
 use mathlib.Core.Path.{_≡_, refl, sym, ap, _∙_}
 use native.Mathlib.Omega.{arith}
-use borrow.Author.Tests.{eqb-false}
-use lib.Dec.{leb}
+use borrow.Author.Tests.{eqb-false, leb-true, leb-false}
+use lib.Dec.{eqb, leb}
+use Rattle.numbers.proofs.TestLaws.{split-and}
 use Rattle.answers.specs.declared.Answer.the-variants.{Refused}
 use Rattle.answers.specs.declared.Error.the-variants.{RecvNoSpace}
 use Rattle.board.specs.declared.Board.{Board}
@@ -15,11 +16,13 @@ use Rattle.endpoint.specs.declared.SendFields.{SendFields}
 use Rattle.endpoint.specs.declared.ReceiveFields.{ReceiveFields}
 use Rattle.endpoint.specs.declared.Endpoint.the-variants.{Send, Receive}
 use Rattle.table.specs.Table.{Table, place, endpointAt}
-use Rattle.slots.specs.Slots.{slotsOf}
+use Rattle.sharing.specs.Sharing.{Shared, waitingOf, foreign, crowded}
+use Rattle.sharing.proofs.ShareLaws.{good-at}
+use Rattle.slots.specs.Slots.{slotsOf, freeSlot}
 use Rattle.command.specs.Checks.{first, _then_}
-use Rattle.command.specs.Command.{does, _▸_, _▸▸_, send_or_gives_, receive_or_gives_, slot_or_gives_}
+use Rattle.command.specs.Command.{isNothing, does, _noting_, _▸_, _▸▸_, send_or_gives_, receive_or_gives_, slot_or_gives_}
 use Rattle.command.specs.declared.Registers.{Registers}
-use Rattle.command.proofs.CheckFacts.{before, stopped}
+use Rattle.command.proofs.CheckFacts.{before, stopped-at-two}
 use Rattle.delivery.specs.Delivery as delivery
 use Rattle.messages.specs.Send as sending
 use Rattle.wiring.specs.Sums.{sum}
@@ -58,8 +61,8 @@ module _ (n : ℕ) (t₀ t : Table) (O : Sound n t₀) (L : Ledger) (I : Inv (ne
   bound {r} {g} R = I .full r (g .«rpl_eps») (g .slots) (takes I (R .there) (R .is))
 
 -- a SEND that is refused with RECV_NO_SPACE
-module _ (N : Net) (b : Board) (size : N .places ≡ b .tiles * 64) (t : Table) (L : Ledger) (I : Inv N t L) (turns : Turns (b .tiles) t) (bs : List ℕ)
-    (own tile ep : ℕ) (a : Registers) (l : leb (b .tiles) tile ≡ false) (h : first ((sending.SEND b t bs own tile ep a) .checks) ≡ Refused RecvNoSpace) where
+module _ (N : Net) (b : Board) (size : N .places ≡ b .tiles * 64) (t : Table) (L : Ledger) (I : Inv N t L) (turns : Turns (b .tiles) t) (sh bs : List ℕ) (shares : Shared b sh)
+    (own tile ep : ℕ) (a : Registers) (l : leb (b .tiles) tile ≡ false) (h : first ((sending.SEND b t sh bs own tile ep a) .checks) ≡ Refused RecvNoSpace) where
   abbrev n : ℕ
   n = b .tiles
 
@@ -69,25 +72,62 @@ module _ (N : Net) (b : Board) (size : N .places ≡ b .tiles * 64) (t : Table) 
   abbrev r : ℕ
   r = place (f .«tgt_tile») (f .«tgt_ep»)
 
-  pub full : (i : ℕ) × (i < slotsOf (receiveOf (t r))) × (holds t L r i ≡ reply)
-  unfolding creditsHeld does _▸_ _▸▸_ send_or_gives_ receive_or_gives_ slot_or_gives_ _then_ delivery.messageChecks delivery.farChecks delivery.fitChecks delivery.delivered sending.lastChecks sending.sendChecks sending.requestOf sending.SEND
-  full =
-      let ok = before RecvNoSpace ((sending.SEND b t bs own tile ep a) .checks) h in
-      let z : ReceiveFields = receiveOf (endpointAt t (f .«tgt_tile») (f .«tgt_ep»)) in
-      let x : Stands n t tile ep (Send f) = sends n t tile ep l (ok 0 tt) in
-      let y : Stands n t (f .«tgt_tile») (f .«tgt_ep») (Receive z) = receives n t (f .«tgt_tile») (f .«tgt_ep») (ok 11 tt) (ok 12 tt) in
+  -- what both causes have in common: the checks before have passed
+  abbrev z : ReceiveFields
+  z = receiveOf (endpointAt t (f .«tgt_tile») (f .«tgt_ep»))
+
+  record Found : Type 0 where
+    sends-it : Stands n t tile ep (Send f)
+    receives-it : Stands n t (f .«tgt_tile») (f .«tgt_ep») (Receive z)
+    unmarked : f .reply ≡ false
+    on-chip : not (eqb (f .«tgt_chip») 0) ≡ false
+    on-board : leb n (f .«tgt_tile») ≡ false
+    credit : eqb (f .«cur_crd») 0 ≡ false
+    cause : (isNothing (freeSlot z) ≡ true) ⊎ (crowded sh (f .«tgt_tile») (z .act) ≡ true)
+
+  found : Found
+  unfolding does _noting_ _▸_ _▸▸_ send_or_gives_ receive_or_gives_ slot_or_gives_ _then_ delivery.messageChecks delivery.farChecks delivery.fitChecks delivery.delivered sending.lastChecks sending.sendChecks sending.requestOf sending.SEND
+  found =
+      let ok = before RecvNoSpace ((sending.SEND b t sh bs own tile ep a) .checks) h in
+      record {
+        sends-it = sends n t tile ep l (ok 0 tt);
+        receives-it = receives n t (f .«tgt_tile») (f .«tgt_ep») (ok 11 tt) (ok 12 tt);
+        unmarked = ok 1 tt;
+        on-chip = ok 10 tt;
+        on-board = ok 11 tt;
+        credit = ok 9 tt;
+        cause = stopped-at-two RecvNoSpace ((sending.SEND b t sh bs own tile ep a) .checks) h 15 tt;
+      }
+
+  -- no slot is free: one of them holds a reply, since a credit is left
+  no-slot : isNothing (freeSlot z) ≡ true → (i : ℕ) × (i < slotsOf (receiveOf (t r))) × (holds t L r i ≡ reply)
+  unfolding creditsHeld
+  no-slot nowhere =
+      let x = found .sends-it in
+      let y = found .receives-it in
       let s : ℕ = place tile ep in
       let g : ReceiveFields = receiveOf (t r) in
       let is : t r ≡ Receive g = y .is ∙ ap Receive (sym (ap receiveOf (y .is))) in
       let R = takes I (rw size (y .there)) is in
-      let none = rw (look t (f .«tgt_tile») (f .«tgt_ep») (y .low)) at (stopped RecvNoSpace ((sending.SEND b t bs own tile ep a) .checks) h 15 tt) in
+      let none = rw (look t (f .«tgt_tile») (f .«tgt_ep») (y .low)) at nowhere in
       let some : 1 ≤ creditsHeld (N .places) t r = omega (
         arith,
         sum-term (N .places) s (λ q. held r (t q)) (rw size (x .there)),
-        held-send r (t s) (ap shape (x .is) ∙ aimed f (ok 1 tt) (ok 10 tt) (y .low)),
+        held-send r (t s) (ap shape (x .is) ∙ aimed f (found .unmarked) (found .on-chip) (y .low)),
         ap cur (x .is),
-        eqb-false (f .«cur_crd») 0 (ok 9 tt),
+        eqb-false (f .«cur_crd») 0 (found .credit),
       ) in
       spare (holds t L r) (slotsOf g)
       (λ i li q. let on = none-free g (turns r g (y .there) is) none i li in I .slots r (g .«rpl_eps») (g .slots) R i li .real on (rw on at q))
       (omega (arith, I .full r (g .«rpl_eps») (g .slots) R, some))
+
+  -- no request has a place: 64 wait, which is as many as may
+  no-place : crowded sh (f .«tgt_tile») (z .act) ≡ true → waitingOf sh (f .«tgt_tile») ≡ 64
+  unfolding crowded
+  no-place q =
+      let waits = leb-true 64 (waitingOf sh (f .«tgt_tile»)) (split-and (foreign sh (f .«tgt_tile») (z .act)) (leb 64 (waitingOf sh (f .«tgt_tile»))) q .1) in
+      let most = good-at b sh (f .«tgt_tile») shares (leb-false n (f .«tgt_tile») (found .on-board)) .few in
+      omega arith
+
+  pub full : ((i : ℕ) × (i < slotsOf (receiveOf (t r))) × (holds t L r i ≡ reply)) ⊎ (waitingOf sh (f .«tgt_tile») ≡ 64)
+  full = ⊎-elim (λ q. inl (no-slot q)) (λ q. inr (no-place q)) (found .cause)

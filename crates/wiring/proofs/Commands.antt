@@ -21,9 +21,10 @@ use Rattle.endpoint.specs.declared.Endpoint.{Endpoint}
 use Rattle.endpoint.specs.declared.Endpoint.the-variants.{Invalid, Send, Receive, Memory}
 use Rattle.table.specs.Table.{Table, place, endpointAt}
 use Rattle.table.proofs.TableLaws.{live}
+use Rattle.sharing.specs.declared.Note.the-variants.{Read}
 use Rattle.slots.specs.Slots.{slotsOf, unreadSlot, slotNamed}
 use Rattle.command.specs.Checks.{_⇒_, first, _then_}
-use Rattle.command.specs.Command.{Command, nothing as no-bytes, does, _▸_, _▸▸_, send_or_gives_, receive_or_gives_, memory_or_gives_, slot_or_gives_, slot_else_gives_}
+use Rattle.command.specs.Command.{Command, nothing as no-bytes, does, _noting_, _▸_, _▸▸_, send_or_gives_, receive_or_gives_, memory_or_gives_, slot_or_gives_, slot_else_gives_}
 use Rattle.command.specs.Outcome.{tabled}
 use Rattle.command.specs.declared.Registers.{Registers}
 use Rattle.command.proofs.CheckFacts.{nth, passed}
@@ -131,19 +132,19 @@ module _ (g : ReceiveFields) (t : Table) (tile ep : ℕ) (f : SendFields) (a : R
 abbrev pub Turns : ℕ → Table → Type 0
 Turns n t = (r : ℕ) (g : ReceiveFields) → r < n * 64 → t r ≡ Receive g → g .wpos ≤ slotsOf g
 
-module _ (N : Net) (b : Board) (t : Table) (bs : List ℕ) (own tile : ℕ) (size : N .places ≡ b .tiles * 64) (turns : Turns (b .tiles) t)
+module _ (N : Net) (b : Board) (t : Table) (sh bs : List ℕ) (own tile : ℕ) (size : N .places ≡ b .tiles * 64) (turns : Turns (b .tiles) t)
     (l : leb (b .tiles) tile ≡ false) (L : Ledger) (I : Inv N t L) where
   abbrev n : ℕ
   n = b .tiles
 
   abbrev step : Opcode → ℕ → Registers → Command
-  step op ep a = stepOf b t bs own tile op ep a
+  step op ep a = stepOf b t sh bs own tile op ep a
 
   abbrev result : Opcode → ℕ → Registers → Table
   result op ep a = tabled t ((step op ep a) .effect .writes)
 
   send-case : (ep : ℕ) (a : Registers) → first ((step opSend ep a) .checks) ≡ None → Inv N (result opSend ep a) (entered t tile opSend ep a L)
-  unfolding stepOf tabled does _▸_ _▸▸_ send_or_gives_ receive_or_gives_ slot_or_gives_ _then_ delivery.messageChecks delivery.farChecks delivery.fitChecks delivery.delivered delivery.arrival sending.lastChecks sending.sendChecks sending.replyPlaced sending.creditSpent sending.sendWrites sending.requestOf sending.SEND
+  unfolding stepOf tabled does _noting_ _▸_ _▸▸_ send_or_gives_ receive_or_gives_ slot_or_gives_ _then_ delivery.messageChecks delivery.farChecks delivery.fitChecks delivery.delivered delivery.arrival sending.lastChecks sending.sendChecks sending.replyPlaced sending.creditSpent sending.sendWrites sending.requestOf sending.SEND
   send-case ep a h =
       let ok = passed ((step opSend ep a) .checks) h in
       let f : SendFields = sendOf (endpointAt t tile ep) in
@@ -172,7 +173,7 @@ module _ (N : Net) (b : Board) (t : Table) (bs : List ℕ) (own tile : ℕ) (siz
       (λ q. eqb-false (g .«rpl_eps») 65535 (told-ranged (eqb (sending.request t tile ep f a .rep) 65535) (eqb (g .«rpl_eps») 65535) q)))
 
   reply-case : (ep : ℕ) (a : Registers) → first ((step opReply ep a) .checks) ≡ None → Inv N (result opReply ep a) (entered t tile opReply ep a L)
-  unfolding stepOf tabled does _▸_ _▸▸_ send_or_gives_ receive_or_gives_ slot_or_gives_ _then_ delivery.messageChecks delivery.farChecks delivery.fitChecks delivery.delivered delivery.arrival replying.fromChecks replying.replyChecks replying.creditTo replying.creditReturned replying.replyGone replying.slotFreed replying.replyWrites replying.responseOf replying.answerOf replying.REPLY
+  unfolding stepOf tabled does _noting_ _▸_ _▸▸_ send_or_gives_ receive_or_gives_ slot_or_gives_ _then_ delivery.messageChecks delivery.farChecks delivery.fitChecks delivery.delivered delivery.arrival replying.fromChecks replying.replyChecks replying.creditTo replying.creditReturned replying.replyGone replying.slotFreed replying.replyWrites replying.responseOf replying.answerOf replying.REPLY
   reply-case ep a h =
       let ok = passed ((step opReply ep a) .checks) h in
       let g : ReceiveFields = receiveOf (endpointAt t tile ep) in
@@ -204,14 +205,14 @@ module _ (N : Net) (b : Board) (t : Table) (bs : List ℕ) (own tile : ℕ) (siz
       (reply-keeps I C)
 
   fetch-case : (ep : ℕ) (a : Registers) → first ((step opFetch ep a) .checks) ≡ None → Inv N (result opFetch ep a) L
-  unfolding stepOf tabled does _▸_ receive_or_gives_ slot_else_gives_ fetching.fetchWrites fetching.FETCH
+  unfolding stepOf tabled does _noting_ _▸_ receive_or_gives_ slot_else_gives_ fetching.fetchWrites fetching.FETCH
   fetch-case ep a h = go (unreadSlot g) h
     where
       g : ReceiveFields
       g = receiveOf (endpointAt t tile ep)
 
       k : Found → Command
-      k u = slot u else does [] no-bytes 18446744073709551615 gives λ i. does (fetching.fetchWrites tile ep g i) no-bytes (i * 2 ^ g .«slot_size»)
+      k u = slot u else does [] no-bytes 18446744073709551615 gives λ i. does (fetching.fetchWrites tile ep g i) no-bytes (i * 2 ^ g .«slot_size») noting Read
 
       go : (u : Found) → first ((not (isReceive (endpointAt t tile ep)) ⇒ NoRep) ∷ (not (eqb (g .act) own) ⇒ ForeignEp) ∷ (k u) .checks) ≡ None
           → Inv N (tabled t ((k u) .effect .writes)) L
@@ -222,7 +223,7 @@ module _ (N : Net) (b : Board) (t : Table) (bs : List ℕ) (own tile : ℕ) (siz
           x = receives n t tile ep l (passed _ h 0)
 
   ack-case : (ep : ℕ) (a : Registers) → first ((step opAck ep a) .checks) ≡ None → Inv N (result opAck ep a) L
-  unfolding stepOf tabled does _▸_ _▸▸_ receive_or_gives_ _then_ acking.ackChecks acking.ackWrites acking.ACK_MSG
+  unfolding stepOf tabled does _noting_ _▸_ _▸▸_ receive_or_gives_ _then_ acking.ackChecks acking.ackWrites acking.ACK_MSG
   ack-case ep a h = go (eqb (g .«rpl_eps») 65535) refl
     where
       g : ReceiveFields
@@ -244,7 +245,7 @@ module _ (N : Net) (b : Board) (t : Table) (bs : List ℕ) (own tile : ℕ) (siz
           (ack-keeps I (rw size (x .there)) (x .is) i (eqb-false (g .«rpl_eps») 65535 q) (leb-false (slotsOf g) i (ok 3)))
 
   pub accepted : (op : Opcode) (ep : ℕ) (a : Registers) → first ((step op ep a) .checks) ≡ None → Inv N (result op ep a) (entered t tile op ep a L)
-  unfolding stepOf tabled does _▸_ _▸▸_ memory_or_gives_ accessing.READ accessing.WRITE
+  unfolding stepOf tabled does _noting_ _▸_ _▸▸_ memory_or_gives_ accessing.READ accessing.WRITE
   accepted opIdle ep a h = I
   accepted opSend ep a h = send-case ep a h
   accepted opReply ep a h = reply-case ep a h

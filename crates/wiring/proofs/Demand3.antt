@@ -1,115 +1,150 @@
 -- Demand 3 of the machine on words: sound wiring gives the invariant, a run keeps it, and it gives the three claims.
 -- Assumes nothing.
-use Prim.Native.Nat.{ℕ, _*_, _<_}
+use Prim.Native.Nat.{ℕ, _*_, _%_, _<_}
 use mathlib.Core.Bool.{Bool, true, false, not}
 use mathlib.Core.List.{List, [], _∷_}
+use mathlib.Core.Logic.{_⊎_}
 use mathlib.Core.Path.{_≡_, refl, sym, _∙_}
 use borrow.Author.Tests.{not-false}
-use lib.Dec.{leb}
+use lib.Dec.{eqb, leb}
 use Rattle.numbers.specs.Choice.{_gives_else_}
 use Rattle.answers.specs.declared.Answer.{Answer}
 use Rattle.answers.specs.declared.Answer.the-variants.{None, Refused}
 use Rattle.answers.specs.declared.Error.{Error}
-use Rattle.answers.specs.declared.Error.the-variants.{RecvNoSpace}
+use Rattle.answers.specs.declared.Error.the-variants.{UnknownCmd, RecvNoSpace}
 use Rattle.board.specs.declared.Board.{Board}
 use Rattle.endpoint.specs.Kinds.{sendOf, receiveOf}
 use Rattle.table.specs.Table.{Table, place, endpointAt, view}
 use Rattle.slots.specs.Slots.{slotsOf}
-use Rattle.command.specs.Checks.{first, _then_, _fails_else_}
-use Rattle.command.specs.Command.{Command, _▸▸_}
+use Rattle.sharing.specs.Sharing.{wordAt, ownOf, waitingOf}
+use Rattle.sharing.specs.declared.Note.{Note}
+use Rattle.command.specs.Checks.{_⇒_, first, _then_, _fails_else_}
+use Rattle.command.specs.Command.{Command, nothing, does, _noting_, _▸_, _▸▸_}
 use Rattle.command.specs.Narrow.{Narrow}
-use Rattle.command.specs.Outcome.{outcome, completes, written, tabled, placed, settled, carried}
+use Rattle.command.specs.Outcome.{outcome, written, tabled, settled}
 use Rattle.command.specs.declared.Registers.{Registers}
 use Rattle.command.proofs.CheckFacts.{passed, before}
+use Rattle.command.proofs.WriteLaws.{by-answer, carried-accepted, carried-refused}
 use Rattle.machine.proofs.Kept as kept
-use Rattle.machine.specs.Machine.{opcodeOf, stepOf, ownOf, machineRight, hostChecks, commandOf}
+use Rattle.machine.proofs.Demand1.{answered}
+use Rattle.machine.specs.Machine.{opcodeOf, stepOf, privilegedStep, machineRight, hostChecks, commandOf, privilegedOf, respondOf, left, leftBy}
 use Rattle.wiring.specs.Ledger.{Ledger, reply, holds}
-use Rattle.wiring.specs.Run.{Machine, Step, AllNarrow, World, outcomeOf, answerOf, next, run, start}
+use Rattle.wiring.specs.Run.{Machine, Step, command, privileged, response, IsNarrow, AllNarrow, World, givenTo, callOf, leftOf, answerOf, entry, next, run, start}
 use Rattle.wiring.specs.Wiring.{wiringOf, YesExactly}
 use Rattle.wiring.specs.declared.Wiring.the-variants.{Yes}
 use Rattle.wiring.specs.Demand3.{KeptBy, Demand3}
 use Rattle.wiring.proofs.Exactly.{yes-exactly}
-use Rattle.wiring.proofs.Right.{few, turns}
+use Rattle.wiring.proofs.Right.{few, turns, shares}
 use Rattle.wiring.proofs.Inv.{Net, Inv}
 use Rattle.wiring.proofs.Commands.{accepted}
 use Rattle.wiring.proofs.Begins.{net, begins}
 use Rattle.wiring.proofs.Claims as claims
 
--- ---- one step
-abbrev commandBy : Machine → Step → Command
-commandBy m c = commandOf (m .board) (m .words) (m .ids) (m .bytes) (c .tile) (c .opcode) (c .ep) (c .registers)
+-- ---- any step
+answer-is : (m : Machine) (c : Step) → answerOf m c ≡ first ((callOf m c) .checks)
+unfolding left leftBy
+answer-is m c = answered (givenTo c) (m .words) (m .bytes) (callOf m c)
 
-answer-is : (m : Machine) (c : Step) → answerOf m c ≡ first ((commandBy m c) .checks)
-unfolding carried settled outcome _fails_else_
-answer-is m c = go (first ((commandBy m c) .checks))
-  where
-    go : (x : Answer)
-        → (x fails (λ e. outcome (completes (Refused e) (c .registers .arg1)) (m .words) (m .bytes))
-        else outcome (completes None ((commandBy m c) .effect .hands)) (written (m .words) ((commandBy m c) .effect .writes)) (placed (m .bytes) ((commandBy m c) .effect .puts))) .completion .answer
-        ≡ x
-    go None = refl
-    go (Refused e) = refl
+-- a refusal changes no word; nor does what writes none
+refused : (m : Machine) (c : Step) (e : Error) → first ((callOf m c) .checks) ≡ Refused e → (leftOf m c) .words ≡ m .words
+unfolding outcome left leftBy
+refused m c e h = rw (carried-refused (givenTo c) (m .words) (m .bytes) (callOf m c) e h)
 
--- the machine is right and the tile is there, so the answer is the command's own
-abbrev ownBy : Machine → Step → Command
-ownBy m c = stepOf (m .board) (view (m .words)) (m .bytes) (ownOf (m .ids) (c .tile)) (c .tile) (opcodeOf (c .opcode)) (c .ep) (c .registers)
+unwritten : (m : Machine) (c : Step) → (callOf m c) .effect .writes ≡ [] → (leftOf m c) .words ≡ m .words
+unfolding outcome written left leftBy
+unwritten m c q =
+    by-answer (first ((callOf m c) .checks)) (λ h. rw (carried-accepted (givenTo c) (m .words) (m .bytes) (callOf m c) h, q)) (λ e h. refused m c e h)
 
-module _ (m : Machine) (c : Step) where
+-- ---- a command: where the machine is right and the tile is there, the answer is the command's own
+module _ (m : Machine) (tile op ep : ℕ) (a : Registers) where
   abbrev right : Bool
-  right = machineRight (m .board) (m .words) (m .ids) (m .bytes)
+  right = machineRight (m .board) (m .words) (m .sharing) (m .bytes)
+
+  abbrev call : Command
+  call = commandOf (m .board) (m .words) (m .sharing) (m .bytes) tile op ep a
+
+  abbrev own : Command
+  own = stepOf (m .board) (view (m .words)) (m .sharing) (m .bytes) (ownOf (m .sharing) tile) tile (opcodeOf op) ep a
 
   record Inner (x : Answer) : Type 0 where
     sizes : right ≡ true
-    there : leb (m .board .tiles) (c .tile) ≡ false
-    own : first ((ownBy m c) .checks) ≡ x
+    there : leb (m .board .tiles) tile ≡ false
+    answer : first (own .checks) ≡ x
 
-  inner : (x : Answer) → not right ≡ false → leb (m .board .tiles) (c .tile) ≡ false → first ((commandBy m c) .checks) ≡ x → Inner x
+  inner : (x : Answer) → not right ≡ false → leb (m .board .tiles) tile ≡ false → first (call .checks) ≡ x → Inner x
   unfolding commandOf hostChecks _▸▸_ _then_ first
-  inner x p q h = record { sizes = not-false right p; there = q; own = rw (p, q) at h }
+  inner x p q h = record { sizes = not-false right p; there = q; answer = rw (p, q) at h }
 
-  when-accepted : first ((commandBy m c) .checks) ≡ None → Inner None
+  when-accepted : first (call .checks) ≡ None → Inner None
   unfolding commandOf hostChecks _▸▸_ _then_
-  when-accepted h = let ok = passed ((commandBy m c) .checks) h in inner None (ok 0) (ok 1) h
+  when-accepted h = let ok = passed (call .checks) h in inner None (ok 0) (ok 1) h
 
-  when-full : first ((commandBy m c) .checks) ≡ Refused RecvNoSpace → Inner (Refused RecvNoSpace)
+  when-full : first (call .checks) ≡ Refused RecvNoSpace → Inner (Refused RecvNoSpace)
   unfolding commandOf hostChecks _▸▸_ _then_
-  when-full h = let ok = before RecvNoSpace ((commandBy m c) .checks) h in inner (Refused RecvNoSpace) (ok 0 tt) (ok 1 tt) h
+  when-full h = let ok = before RecvNoSpace (call .checks) h in inner (Refused RecvNoSpace) (ok 0 tt) (ok 1 tt) h
 
--- a refusal changes no word
-refused : (m : Machine) (c : Step) (e : Error) → first ((commandBy m c) .checks) ≡ Refused e → (outcomeOf m c) .words ≡ m .words
-unfolding carried settled outcome _fails_else_
-refused m c e h = rw h
+  -- the table that an accepted one leaves in the words is the one that its writes make
+  follows : Narrow a → right ≡ true → first (call .checks) ≡ None → view ((leftOf m (command tile op ep a)) .words) ≡ tabled (view (m .words)) (call .effect .writes)
+  unfolding settled _fails_else_ left leftBy
+  follows n ok h = kept.follows .command (m .board) (m .words) (m .sharing) (m .bytes) tile op ep a n ok (a .arg1) ∙ rw h
+
+-- ---- the privileged side writes nothing
+privileged-bare : (m : Machine) (tile op arg0 arg1 : ℕ) → (callOf m (privileged tile op arg0 arg1)) .effect .writes ≡ []
+unfolding privilegedOf privilegedStep _gives_else_ _▸▸_ _▸_ does _noting_
+privileged-bare m tile op arg0 arg1 = go (eqb op 0) (eqb op 4)
+  where
+    go : (x y : Bool)
+        → (x gives does [] nothing arg1 else y gives (does [] nothing (wordAt (m .sharing) tile 0) noting Note.Exchanged (arg0 % 4294967296)) else (true ⇒ UnknownCmd ▸ does [] nothing arg1)) .effect .writes ≡ []
+    go true y = refl
+    go false true = refl
+    go false false = refl
+
+response-bare : (m : Machine) (tile : ℕ) → (callOf m (response tile)) .effect .writes ≡ []
+unfolding respondOf _▸▸_ does _noting_
+response-bare m tile = refl
+
+-- and has no entry
+no-entry : (x : Answer) (L : Ledger) → (x fails (λ e. L) else L) ≡ L
+unfolding _fails_else_
+no-entry None L = refl
+no-entry (Refused e) L = refl
 
 -- ---- a run
--- the table that an accepted command leaves in the words is the one that its writes make
-follows : (b : Board) (ws ids bs : List ℕ) (tile op ep : ℕ) (a : Registers) → machineRight b ws ids bs ≡ true → Narrow a
-    → first ((commandOf b ws ids bs tile op ep a) .checks) ≡ None
-    → view ((carried (a .arg1) ws bs (commandOf b ws ids bs tile op ep a)) .words) ≡ tabled (view ws) ((commandOf b ws ids bs tile op ep a) .effect .writes)
-unfolding settled _fails_else_
-follows b ws ids bs tile op ep a ok n h = kept.follows .command b ws ids bs tile op ep a n ok (a .arg1) ∙ rw h
-
 record Good (N : Net) (w : World) : Type 0 where
   size : N .places ≡ w .machine .board .tiles * 64
   inv : Inv N (view (w .machine .words)) (w .ledger)
 
-keeps : {N : Net} (w : World) (c : Step) → Narrow (c .registers) → Good N w → Good N (next w c)
+-- a step that leaves the words and has no entry
+stays : {N : Net} (w : World) (c : Step) → (leftOf (w .machine) c) .words ≡ w .machine .words → entry (w .machine) c (w .ledger) ≡ w .ledger → Good N w → Good N (next w c)
+unfolding next
+stays w c p q G = record { size = G .size; inv = rw (p, q) (G .inv) }
+
+command-keeps : {N : Net} (w : World) (tile op ep : ℕ) (a : Registers) → Narrow a → Good N w → Good N (next w (command tile op ep a))
 unfolding next commandOf _▸▸_ _fails_else_
-keeps {N} w c W G = go (first ((commandBy m c) .checks)) refl
+command-keeps {N} w tile op ep a W G = go (first ((callOf m c) .checks)) refl
   where
     m : Machine
     m = w .machine
 
-    go : (x : Answer) → first ((commandBy m c) .checks) ≡ x → Good N (next w c)
+    c : Step
+    c = command tile op ep a
+
+    go : (x : Answer) → first ((callOf m c) .checks) ≡ x → Good N (next w c)
     go None h =
-        let i : Inner m c None = when-accepted m c h in
+        let i : Inner m tile op ep a None = when-accepted m tile op ep a h in
         record {
           size = G .size;
           inv =
-              rw (answer-is m c, h, follows (m .board) (m .words) (m .ids) (m .bytes) (c .tile) (c .opcode) (c .ep) (c .registers) (i .sizes) W h)
-              (accepted N (m .board) (view (m .words)) (m .bytes) (ownOf (m .ids) (c .tile)) (c .tile) (G .size)
-              (turns (m .board) (m .words) (m .ids) (m .bytes) (i .sizes)) (i .there) (w .ledger) (G .inv) (opcodeOf (c .opcode)) (c .ep) (c .registers) (i .own));
+              rw (answer-is m c, h, follows m tile op ep a W (i .sizes) h)
+              (accepted N (m .board) (view (m .words)) (m .sharing) (m .bytes) (ownOf (m .sharing) tile) tile (G .size)
+              (turns (m .board) (m .words) (m .sharing) (m .bytes) (i .sizes)) (i .there) (w .ledger) (G .inv) (opcodeOf op) ep a (i .answer));
         }
-    go (Refused e) h = record { size = G .size; inv = rw (answer-is m c, h, refused m c e h) (G .inv) }
+    go (Refused e) h = stays w c (refused m c e h) (rw (answer-is m c, h)) G
+
+keeps : {N : Net} (w : World) (c : Step) → IsNarrow c → Good N w → Good N (next w c)
+keeps w (command tile op ep a) W G = command-keeps w tile op ep a W G
+keeps w (privileged tile op arg0 arg1) W G = let c = privileged tile op arg0 arg1 in stays w c (unwritten (w .machine) c (privileged-bare (w .machine) tile op arg0 arg1)) (no-entry _ (w .ledger)) G
+keeps w (response tile) W G = let c = response tile in stays w c (unwritten (w .machine) c (response-bare (w .machine) tile)) (no-entry _ (w .ledger)) G
 
 runs : {N : Net} (cs : List Step) → AllNarrow cs → (w : World) → Good N w → Good N (run w cs)
 unfolding run
@@ -143,21 +178,20 @@ demand-3 m₀ ok O cs W = record {
     L = w .ledger
 
     G : Good (net n t₀) w
-    G = runs cs W (start m₀) (record { size = refl; inv = begins n t₀ O (few b (m₀ .words) (m₀ .ids) (m₀ .bytes) ok) })
+    G = runs cs W (start m₀) (record { size = refl; inv = begins n t₀ O (few b (m₀ .words) (m₀ .sharing) (m₀ .bytes) ok) })
 
-    full : (tile ep : ℕ) (a : Registers) → answerOf (w .machine) (record { tile = tile; opcode = 1; ep = ep; registers = a }) ≡ Refused RecvNoSpace
+    full : (tile ep : ℕ) (a : Registers) → answerOf (w .machine) (command tile 1 ep a) ≡ Refused RecvNoSpace
         → let s = sendOf (endpointAt t tile ep) in
         let r = place (s .«tgt_tile») (s .«tgt_ep») in
-        (i : ℕ) × (i < slotsOf (receiveOf (t r))) × (holds t L r i ≡ reply)
+        ((i : ℕ) × (i < slotsOf (receiveOf (t r))) × (holds t L r i ≡ reply)) ⊎ (waitingOf (w .machine .sharing) (s .«tgt_tile») ≡ 64)
     full tile ep a h =
         let m : Machine = w .machine in
-        let c : Step = record { tile = tile; opcode = 1; ep = ep; registers = a } in
-        let i : Inner m c (Refused RecvNoSpace) = when-full m c (sym (answer-is m c) ∙ h) in
-        claims.full (net n t₀) (m .board) (G .size) t L (G .inv) (turns (m .board) (m .words) (m .ids) (m .bytes) (i .sizes)) (m .bytes) (ownOf (m .ids) tile)
-        tile ep a (i .there) (i .own)
+        let i : Inner m tile 1 ep a (Refused RecvNoSpace) = when-full m tile 1 ep a (sym (answer-is m (command tile 1 ep a)) ∙ h) in
+        claims.full (net n t₀) (m .board) (G .size) t L (G .inv) (turns (m .board) (m .words) (m .sharing) (m .bytes) (i .sizes)) (m .sharing) (m .bytes)
+        (shares (m .board) (m .words) (m .sharing) (m .bytes) (i .sizes)) (ownOf (m .sharing) tile) tile ep a (i .there) (i .answer)
 
 -- and so of every wiring to which the check says yes
-pub demand-3-checked : (m : Machine) → wiringOf (m .board) (m .words) (m .ids) (m .bytes) ≡ Yes → (cs : List Step) → AllNarrow cs
+pub demand-3-checked : (m : Machine) → wiringOf (m .board) (m .words) (m .sharing) (m .bytes) ≡ Yes → (cs : List Step) → AllNarrow cs
     → KeptBy m (run (start m) cs)
 unfolding Demand3 YesExactly
-demand-3-checked m h = let p = yes-exactly (m .board) (m .words) (m .ids) (m .bytes) .0 h in demand-3 m (p .0) (p .1)
+demand-3-checked m h = let p = yes-exactly (m .board) (m .words) (m .sharing) (m .bytes) .0 h in demand-3 m (p .0) (p .1)

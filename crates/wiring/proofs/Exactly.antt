@@ -242,7 +242,7 @@ yes-if false b h = clash (cc)
 
 pub yes-exactly : YesExactly
 unfolding YesExactly wiringOf _gives_else_
-yes-exactly b ws ids bs = (
-  (λ h. let p = yes-if (machineRight b ws ids bs) (sound (b .tiles) (view ws)) h in (p .0, is-sound (b .tiles) (view ws) (p .1))),
+yes-exactly b ws sh bs = (
+  (λ h. let p = yes-if (machineRight b ws sh bs) (sound (b .tiles) (view ws)) h in (p .0, is-sound (b .tiles) (view ws) (p .1))),
   (λ p. rw (p .0, passes (b .tiles) (view ws) (p .1))),
 )

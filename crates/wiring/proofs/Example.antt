@@ -2,7 +2,7 @@
 -- buffer. All by computation. Assumes nothing.
 use Prim.Native.Nat.{ℕ, _^_, _<_}
 use mathlib.Core.Bool.{false}
-use mathlib.Core.List.{List, [], _∷_}
+use mathlib.Core.List.{List, [], _∷_, _++_}
 use mathlib.Core.Path.{_≡_, refl}
 use lib.Dec.{lit<}
 use lib.ListN.{replicate}
@@ -25,9 +25,12 @@ use Rattle.bits.specs.Slots.{findSlot}
 use Rattle.bits.specs.Search as search
 use Rattle.endpoint.specs.Kinds.{sendOf}
 use Rattle.slots.specs.Slots.{freeSlot, unreadSlot, slotNamed, rangePast, rangeBad, filled, fetched, cleared}
+use Rattle.sharing.specs.Sharing as sharing
+use Rattle.sharing.specs.Note.{noted}
+use Rattle.command.specs.declared.Registers.{Registers}
 use Rattle.memory.specs.Bytes as bytes
 use Rattle.command.specs.Checks.{first, _then_, _fails_else_}
-use Rattle.command.specs.Command.{does, _▸_, _▸▸_, send_or_gives_, receive_or_gives_, slot_or_gives_, slot_else_gives_}
+use Rattle.command.specs.Command.{does, _noting_, _▸_, _▸▸_, send_or_gives_, receive_or_gives_, slot_or_gives_, slot_else_gives_}
 use Rattle.command.specs.Outcome.{outcome, written, placed, settled, carried}
 use Rattle.command.specs.Local.{crossesPage, outside, localAt}
 use Rattle.delivery.specs.Header.{headerWord, headerBytes}
@@ -36,9 +39,8 @@ use Rattle.messages.specs.Send as sending
 use Rattle.messages.specs.Reply as replying
 use Rattle.receive.specs.Fetch as fetching
 use Rattle.wiring.specs.Ledger.{Held, nothing, request, reply, holds}
-use Rattle.command.specs.Narrow.{Narrow}
-use Rattle.wiring.specs.Run.{Machine, Step, AllNarrow, World, answerOf, next, run, start}
-use Rattle.machine.specs.Machine.{opcodeOf, stepOf, machineRight, hostChecks, commandOf}
+use Rattle.wiring.specs.Run.{Machine, Step, command, IsNarrow, AllNarrow, World, answerOf, next, run, start}
+use Rattle.machine.specs.Machine.{opcodeOf, stepOf, machineRight, hostChecks, commandOf, left, leftBy}
 use Rattle.wiring.specs.Sums.{sum}
 use Rattle.wiring.specs.Credits.{share, promised}
 use Rattle.wiring.specs.Wiring.{senderSound, clearOf, apartFrom, apartAt, rangeSound, receiverSound, endpointSound, sound, wiringOf}
@@ -57,10 +59,11 @@ receiver : (k z buffer rpl : ℕ) → Endpoint
 receiver k z buffer rpl = Receive record { act = 5; «rpl_eps» = rpl; slots = k; «slot_size» = z; wpos = 0; rpos = 0; buffer = buffer; occupied = 0; unread = 0 }
 
 machine : List ℕ → Machine
-machine ws = record { board = board; words = ws; ids = 5 ∷ 5 ∷ []; bytes = replicate 8192 0 }
+-- activity 5 on both tiles, and nothing waits
+machine ws = record { board = board; words = ws; sharing = (5 ∷ replicate 66 0) ++ (5 ∷ replicate 66 0); bytes = replicate 8192 0 }
 
 check : Machine → Wiring
-check m = wiringOf (m .board) (m .words) (m .ids) (m .bytes)
+check m = wiringOf (m .board) (m .words) (m .sharing) (m .bytes)
 
 -- document 01's session
 session : List ℕ
@@ -74,16 +77,19 @@ tooMany = stored session 5 (sendTo 1 7 1)
 crowded : List ℕ
 crowded = stored (stored session 6 (receiver 0 6 2048 65535)) 72 (sendTo 0 6 1)
 
-command : (tile opcode ep size arg0 : ℕ) → Step
-command tile opcode ep size arg0 = record { tile = tile; opcode = opcode; ep = ep; registers = record { arg0 = arg0; addr = 0; size = size; arg1 = 0 } }
+registers : (size arg0 : ℕ) → Registers
+registers size arg0 = record { arg0 = arg0; addr = 0; size = size; arg1 = 0 }
 
-wide : (tile opcode ep size arg0 : ℕ) → size < 2 ^ 64 → arg0 < 2 ^ 64 → Narrow ((command tile opcode ep size arg0) .registers)
-unfolding command
+given : (tile opcode ep size arg0 : ℕ) → Step
+given tile opcode ep size arg0 = command tile opcode ep (registers size arg0)
+
+wide : (tile opcode ep size arg0 : ℕ) → size < 2 ^ 64 → arg0 < 2 ^ 64 → IsNarrow (given tile opcode ep size arg0)
+unfolding given registers
 wide tile opcode ep size arg0 p q = record { arg0-fits = q; addr-fits = lit< tt; size-fits = p; arg1-fits = lit< tt }
 
 -- tile 0 sends two messages and wants a reply to the first; tile 1 fetches that and replies to it
 commands : List Step
-commands = command 0 1 4 16 6 ∷ command 0 1 4 16 65535 ∷ command 1 5 7 0 0 ∷ command 1 2 7 16 0 ∷ []
+commands = given 0 1 4 16 6 ∷ given 0 1 4 16 65535 ∷ given 1 5 7 0 0 ∷ given 1 2 7 16 0 ∷ []
 
 end : World
 end = run (start (machine crowded)) commands
@@ -105,10 +111,10 @@ record Shown : Type 0 where
   second-slot : slot-at-end 71 1 ≡ request 4
   reply-slot : slot-at-end 6 0 ≡ reply
   -- and a SEND of tile 1 to that slot finds it full
-  full : answerOf (end .machine) (command 1 1 8 16 65535) ≡ Refused RecvNoSpace
+  full : answerOf (end .machine) (given 1 1 8 16 65535) ≡ Refused RecvNoSpace
 
 shown : Shown
-unfolding machine check slot-at-end board sendTo receiver session crowded command commands end stored putNth wordsNth view fieldsOf endpointAt upd _gives_else_ all search.first memoryAllowed allowed startOf sizeOf bytesOf sizesRight acceptable acceptableWords goodTable machineRight hostChecks opcodeOf stepOf commandOf putBit findSlot _above_ freeSlot unreadSlot slotNamed rangePast rangeBad filled fetched cleared first _then_ _fails_else_ does _▸_ _▸▸_ send_or_gives_ receive_or_gives_ slot_or_gives_ slot_else_gives_ outcome written placed settled carried crossesPage outside localAt headerWord headerBytes delivery.tooLong delivery.messageChecks delivery.farChecks delivery.fitChecks delivery.delivered delivery.arrival delivery.slotAt delivery.messageTo sending.lastChecks sending.sendChecks sending.sepOf sending.rsizeOf sending.request sending.replyTo sending.withCredits sending.replyPlaced sending.creditSpent sending.sendWrites sending.requestOf sending.SEND replying.fromChecks replying.creditBad replying.replyChecks replying.response replying.creditable replying.credited replying.creditTo replying.creditReturned replying.replyGone replying.slotFreed replying.replyWrites replying.responseOf replying.answerOf replying.REPLY fetching.fetchWrites fetching.FETCH bytes.part bytes.put bytes.bytes bytes.word bytes.header next run tooMany sum share promised senderSound clearOf apartFrom apartAt rangeSound receiverSound endpointSound sound wiringOf
+unfolding machine check slot-at-end board sendTo receiver session crowded registers given commands end stored putNth wordsNth view fieldsOf endpointAt upd _gives_else_ all search.first memoryAllowed allowed startOf sizeOf bytesOf sizesRight acceptable acceptableWords goodTable machineRight hostChecks left leftBy sharing.wordAt sharing.setAt sharing.requestAt sharing.requestGood sharing.recordGood sharing.sharingGood sharing.foreign sharing.crowded sharing.counted sharing.arrived sharing.taken noted opcodeOf stepOf commandOf putBit findSlot _above_ freeSlot unreadSlot slotNamed rangePast rangeBad filled fetched cleared first _then_ _fails_else_ does _noting_ _▸_ _▸▸_ send_or_gives_ receive_or_gives_ slot_or_gives_ slot_else_gives_ outcome written placed settled carried crossesPage outside localAt headerWord headerBytes delivery.tooLong delivery.messageChecks delivery.farChecks delivery.fitChecks delivery.delivered delivery.arrival delivery.arrivalOf delivery.slotAt delivery.messageTo sending.lastChecks sending.sendChecks sending.sepOf sending.rsizeOf sending.request sending.replyTo sending.withCredits sending.replyPlaced sending.creditSpent sending.sendWrites sending.requestOf sending.SEND replying.fromChecks replying.creditBad replying.replyChecks replying.response replying.creditable replying.credited replying.creditTo replying.creditReturned replying.replyGone replying.slotFreed replying.replyWrites replying.responseOf replying.answerOf replying.REPLY fetching.fetchWrites fetching.FETCH bytes.part bytes.put bytes.bytes bytes.word bytes.header next run tooMany sum share promised senderSound clearOf apartFrom apartAt rangeSound receiverSound endpointSound sound wiringOf
 shown =
     record {
       session-is-sound = refl;

@@ -1,6 +1,6 @@
 -- What a machine of right sizes with a good table has. Assumes nothing.
 use Prim.Native.Nat.{ℕ, _*_, _≤_, _<_}
-use mathlib.Core.Bool.{true}
+use mathlib.Core.Bool.{true, _&&_}
 use mathlib.Core.List.{List}
 use mathlib.Core.Path.{_≡_}
 use lib.ListN.{length}
@@ -14,6 +14,7 @@ use Rattle.endpoint.proofs.EndpointLaws.{Rules, accepted}
 use Rattle.table.specs.Table.{view}
 use Rattle.table.specs.Good.{memoryAt, goodTable}
 use Rattle.table.proofs.TableLaws.{good-at}
+use Rattle.sharing.specs.Sharing.{Shared, sharingGood}
 use Rattle.machine.specs.Machine.{machineRight}
 use Rattle.wiring.specs.Sound.{Receiver}
 use Rattle.wiring.proofs.Commands.{Turns}
@@ -22,16 +23,22 @@ use Rattle.wiring.proofs.Commands.{Turns}
 abbrev pub Lent : Board → ℕ → Type 0
 Lent b words = (b .tiles ≤ 8) × (words ≡ b .tiles * 192)
 
-pub lent : (b : Board) (words acts bytes : ℕ) → sizesRight b words acts bytes ≡ true → Lent b words
-lent b words acts bytes h = let r = right b words acts bytes h in (bounds b (r .board) .few, r .words-right)
+pub lent : (b : Board) (words sharing bytes : ℕ) → sizesRight b words sharing bytes ≡ true → Lent b words
+lent b words sharing bytes h = let r = right b words sharing bytes h in (bounds b (r .board) .few, r .words-right)
 
-module _ (b : Board) (ws ids bs : List ℕ) (ok : machineRight b ws ids bs ≡ true) where
-  abbrev parts : (sizesRight b (length ws) (length ids) (length bs) ≡ true) × (goodTable b ws ≡ true)
+module _ (b : Board) (ws sh bs : List ℕ) (ok : machineRight b ws sh bs ≡ true) where
+  abbrev parts : (sizesRight b (length ws) (length sh) (length bs) ≡ true) × (goodTable b ws ≡ true) × (sharingGood b sh ≡ true)
   unfolding machineRight
-  parts = split-and (sizesRight b (length ws) (length ids) (length bs)) (goodTable b ws) ok
+  parts =
+      let p = split-and (sizesRight b (length ws) (length sh) (length bs)) (goodTable b ws && sharingGood b sh) ok in
+      let q = split-and (goodTable b ws) (sharingGood b sh) (p .1) in
+      (p .0, q .0, q .1)
 
   pub right-lent : Lent b (length ws)
-  right-lent = lent b (length ws) (length ids) (length bs) (parts .0)
+  right-lent = lent b (length ws) (length sh) (length bs) (parts .0)
+
+  pub shares : Shared b sh
+  shares = record { long = right b (length ws) (length sh) (length bs) (parts .0) .sharing-right; good = parts .2 }
 
   rules : (q : ℕ) (g : ReceiveFields) → q < b .tiles * 64 → view ws q ≡ Receive g → Rules (memoryAt b q) g
   rules q g l e = accepted (memoryAt b q) g (rw e at (good-at b ws (parts .1) q l))

@@ -82,13 +82,13 @@ sound n t = all (soundAt n t) (n * 64)
 
 -- ---- what the host gets
 unfoldable pub wiringOf : Board → List ℕ → List ℕ → List ℕ → Wiring
-wiringOf b ws ids bs =
-    machineRight b ws ids bs gives (sound (b .tiles) (view ws) gives Yes else No) else Refused BadMachine
+wiringOf b ws sh bs =
+    machineRight b ws sh bs gives (sound (b .tiles) (view ws) gives Yes else No) else Refused BadMachine
 
 -- It says yes exactly for sound wiring.
 unfoldable pub YesExactly : Type 0
 YesExactly =
-    (b : Board) (ws ids bs : List ℕ) → (wiringOf b ws ids bs ≡ Yes) ↔ ((machineRight b ws ids bs ≡ true) × Sound (b .tiles) (view ws))
+    (b : Board) (ws sh bs : List ℕ) → (wiringOf b ws sh bs ≡ Yes) ↔ ((machineRight b ws sh bs ≡ true) × Sound (b .tiles) (view ws))
 
 -- ---- what the code asks of an endpoint that it read: the field of 6 bits is below 64
 abbrev pub Low : Endpoint → Type 0

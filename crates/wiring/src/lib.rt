@@ -282,10 +282,10 @@ fn is_sound(b: Board, words: &[u64]) -> bool
 // ---- for the host
 
 // The wiring check.
-pub fn check_wiring(b: Board, words: &[u64], acts: &[u16], mem: &[u8]) -> Wiring
-    ensures { λ r. ⌜ r ≡ wiringOf b (now (words .entry)) (now (acts .entry)) (now (mem .entry)) ⌝ }
+pub fn check_wiring(b: Board, words: &[u64], sharing: &[u64], mem: &[u8]) -> Wiring
+    ensures { λ r. ⌜ r ≡ wiringOf b (now (words .entry)) (now (sharing .entry)) (now (mem .entry)) ⌝ }
 {
-    if !machine::machine_right(b, words, acts, mem) {
+    if !machine::machine_right(b, words, sharing, mem) {
         return Wiring::Refused(Error::BadMachine);
     }
     if is_sound(b, words) {

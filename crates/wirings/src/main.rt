@@ -160,19 +160,19 @@ fn configured(a: Answer) {
     }
 }
 
-fn put(words: &mut [u64; 384], acts: &[u16; 2], mem: &[u8; 8192], p: Placed) {
+fn put(words: &mut [u64; 384], sharing: &[u64; 134], mem: &[u8; 8192], p: Placed) {
     let b = session_board();
     let e = p.endpoint;
     match endpoint::pack(b.memory, e) {
-        Packed::Words(w) => configured(machine::configure(b, words, acts, mem, p.tile, p.ep, w)),
+        Packed::Words(w) => configured(machine::configure(b, words, sharing, mem, p.tile, p.ep, w)),
         Packed::Refused(e) => configured(Answer::Refused(e)),
     }
 }
 
-fn session(words: &mut [u64; 384], acts: &[u16; 2], mem: &[u8; 8192]) {
-    put(words, acts, mem, send_at(0, 4, sender()));
-    put(words, acts, mem, receive_at(0, 6, reply_receiver()));
-    put(words, acts, mem, receive_at(1, 7, receiver()));
+fn session(words: &mut [u64; 384], sharing: &[u64; 134], mem: &[u8; 8192]) {
+    put(words, sharing, mem, send_at(0, 4, sender()));
+    put(words, sharing, mem, receive_at(0, 6, reply_receiver()));
+    put(words, sharing, mem, receive_at(1, 7, receiver()));
 }
 
 // ---- lines
@@ -192,13 +192,13 @@ fn pad(column: &[u8], n: usize) {
     }
 }
 
-fn line(name: &[u8], words: &[u64], acts: &[u16], mem: &[u8], should: &[u8]) {
+fn line(name: &[u8], words: &[u64], sharing: &[u64], mem: &[u8], should: &[u8]) {
     say(name);
     pad(
         b"                                                   ",
         name.len(),
     );
-    answer(wiring::check_wiring(session_board(), words, acts, mem));
+    answer(wiring::check_wiring(session_board(), words, sharing, mem));
     say(b" should be ");
     say(should);
     say(b"\n");
@@ -211,22 +211,22 @@ fn check_changed(
     c: Placed,
     should: &[u8],
     words: &mut [u64; 384],
-    acts: &[u16; 2],
+    sharing: &[u64; 134],
     mem: &[u8; 8192],
 ) {
-    session(words, acts, mem);
-    put(words, acts, mem, a);
-    put(words, acts, mem, b);
-    put(words, acts, mem, c);
-    line(name, words, acts, mem, should);
+    session(words, sharing, mem);
+    put(words, sharing, mem, a);
+    put(words, sharing, mem, b);
+    put(words, sharing, mem, c);
+    line(name, words, sharing, mem, should);
 }
 
 // The session's wiring with three endpoints put in.
 fn three(name: &[u8], a: Placed, b: Placed, c: Placed, should: &[u8]) {
     let mut words = [0u64; 384];
-    let acts = [5u16; 2];
+    let sharing = [0u64; 134];
     let mem = [0u8; 8192];
-    check_changed(name, a, b, c, should, &mut words, &acts, &mem);
+    check_changed(name, a, b, c, should, &mut words, &sharing, &mem);
 }
 
 // With one put in. That it is put in three times makes no difference.
@@ -236,15 +236,15 @@ fn one(name: &[u8], a: Placed, should: &[u8]) {
 
 // ---- sound tables
 
-fn check_empty(words: &[u64; 384], acts: &[u16; 2], mem: &[u8; 8192]) {
-    line(b"no endpoint", words, acts, mem, b"yes");
+fn check_empty(words: &[u64; 384], sharing: &[u64; 134], mem: &[u8; 8192]) {
+    line(b"no endpoint", words, sharing, mem, b"yes");
 }
 
 fn empty() {
     let words = [0u64; 384];
-    let acts = [5u16; 2];
+    let sharing = [0u64; 134];
     let mem = [0u8; 8192];
-    check_empty(&words, &acts, &mem);
+    check_empty(&words, &sharing, &mem);
 }
 
 fn sound() {
@@ -386,31 +386,31 @@ fn broken_aims() {
 // ---- no machine: BAD_MACHINE
 
 // "Good table": "Types 4 to 7 are not acceptable".
-fn check_type_4(words: &mut [u64; 384], acts: &[u16; 2], mem: &[u8; 8192]) {
-    session(words, acts, mem);
+fn check_type_4(words: &mut [u64; 384], sharing: &[u64; 134], mem: &[u8; 8192]) {
+    session(words, sharing, mem);
     words[0] = 4;
-    line(b"an endpoint of type 4", words, acts, mem, b"100");
+    line(b"an endpoint of type 4", words, sharing, mem, b"100");
 }
 
 fn type_4() {
     let mut words = [0u64; 384];
-    let acts = [5u16; 2];
+    let sharing = [0u64; 134];
     let mem = [0u8; 8192];
-    check_type_4(&mut words, &acts, &mem);
+    check_type_4(&mut words, &sharing, &mem);
 }
 
 // "192 64-bit words per tile"
-fn check_word_short(words: &mut [u64; 384], acts: &[u16; 2], mem: &[u8; 8192]) {
-    session(words, acts, mem);
+fn check_word_short(words: &mut [u64; 384], sharing: &[u64; 134], mem: &[u8; 8192]) {
+    session(words, sharing, mem);
     let all = &words[..];
-    line(b"383 words for 2 tiles", &all[0..383], acts, mem, b"100");
+    line(b"383 words for 2 tiles", &all[0..383], sharing, mem, b"100");
 }
 
 fn word_short() {
     let mut words = [0u64; 384];
-    let acts = [5u16; 2];
+    let sharing = [0u64; 134];
     let mem = [0u8; 8192];
-    check_word_short(&mut words, &acts, &mem);
+    check_word_short(&mut words, &sharing, &mem);
 }
 
 fn main() {

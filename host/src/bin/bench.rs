@@ -15,8 +15,8 @@ mod library {
             memory: u64,
             words: *mut u64,
             words_len: usize,
-            acts: *const u16,
-            acts_len: usize,
+            sharing: *mut u64,
+            sharing_len: usize,
             mem: *mut u8,
             mem_len: usize,
             tile: u64,
@@ -41,8 +41,8 @@ mod library {
                 memory,
                 lent.words.as_mut_ptr(),
                 lent.words.len(),
-                lent.acts.as_ptr(),
-                lent.acts.len(),
+                lent.sharing.as_mut_ptr(),
+                lent.sharing.len(),
                 lent.mem.as_mut_ptr(),
                 lent.mem.len(),
                 c.tile,
@@ -65,11 +65,14 @@ mod measure {
     use tcu_host::call::State;
     use tcu_host::model::{opcode, Command, Endpoint, Machine, Memory, Receive, Send};
     use tcu_host::model::{ENDPOINTS, NO_ENDPOINT, WORDS_PER_TILE};
+    use tcu_host::sharing::{self, Request, CUR_ACT, SHARING_PER_TILE};
     use tcu_host::wrong::Wrong;
 
     const MEMORY: u64 = 8192;
     const ACT: u16 = 5;
     const PAYLOAD: u64 = 64;
+    /// The requests that wait at each tile.
+    const WAITING: u8 = 8;
     const ROUNDS: usize = 101;
     /// About how long one side runs before the other has its turn.
     const TURN: Duration = Duration::from_millis(2);
@@ -82,7 +85,7 @@ mod measure {
             tiles,
             memory,
             words: &mut lent.words,
-            acts: &lent.acts,
+            sharing: &mut lent.sharing,
             mem: &mut lent.mem,
             wrong: Wrong::Nothing,
         };
@@ -155,7 +158,7 @@ mod measure {
     fn wired(tiles: u64) -> State {
         let mut state = State {
             words: vec![0; (WORDS_PER_TILE * tiles) as usize],
-            acts: vec![ACT; tiles as usize],
+            sharing: records(tiles),
             mem: (0..tiles * MEMORY).map(|place| (place * 7 % 251) as u8).collect(),
         };
         let far = (tiles - 1) as u8;
@@ -174,6 +177,18 @@ mod measure {
         let far_table = u64::from(far) * ENDPOINTS;
         put(&mut state, far_table + 7, Endpoint::Receive(receiver(8, 1, 20, 1024)));
         state
+    }
+
+    /// Each tile runs the same activity, and requests for others wait there.
+    fn records(tiles: u64) -> Vec<u64> {
+        let mut records = vec![0; (SHARING_PER_TILE * tiles) as usize];
+        for record in records.chunks_exact_mut(SHARING_PER_TILE as usize) {
+            record[CUR_ACT] = ACT.into();
+            for endpoint in 0..WAITING {
+                sharing::enqueue(record, Request { endpoint, act: ACT + 1 });
+            }
+        }
+        records
     }
 
     fn put(state: &mut State, at: u64, endpoint: Endpoint) {

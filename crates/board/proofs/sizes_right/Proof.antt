@@ -16,6 +16,7 @@ sizes-right-spec =
     (λ c κs. search needs)
     (λ c. rw (← c .before .board-allowed .ensures, not-true (c .before .board-allowed .result) (c .if1 .taken)))
     (λ c. omega (arith, bounds _ (sym (c .before .before .board-allowed .ensures) ∙ not-false _ (c .before .if1 .left))))
+    (λ c. omega (arith, bounds _ (sym (c .before .before .before .board-allowed .ensures) ∙ not-false _ (c .before .before .if1 .left))))
     (λ c.
     let s = c .before .before .before .before in
     omega (arith, (bounds _ (sym (s .board-allowed .ensures) ∙ not-false _ (c .before .before .before .if1 .left))) .total))

@@ -1,6 +1,6 @@
 -- `delivery::find_target` meets its contract. Assumes nothing.
 use borrow.Author.Needs.{needs}
-use Rattle.delivery.proofs.TargetLaws.{targets, far-words, usable-far}
+use Rattle.delivery.proofs.TargetLaws.{targets, far-words, far-record, usable-far}
 use Rattle.delivery.specs.Target.{targetOf}
 use Rattle.delivery.proofs.find_target.Statement.{statement}
 use Rattle.delivery.proofs.find_target.Tie as tie
@@ -19,5 +19,6 @@ find-target-spec =
     (λ c κs. search far-words)
     (λ c. search needs)
     (λ c. search targets depth 20)
-    (λ c κs. search usable-far)
+    (λ c. search needs)
+    (λ c κs. (search usable-far, search far-record))
     (λ c. search targets depth 20))

@@ -18,4 +18,6 @@ receiver-target-spec =
     (λ c. search needs)
     (λ c. search needs)
     (λ c. search targets depth 20)
+    (λ c κs. search needs)
+    (λ c. search targets depth 20)
     (λ c. search targets depth 20))

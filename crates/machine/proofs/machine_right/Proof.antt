@@ -4,7 +4,7 @@ use borrow.Author.Tests.{not-true, not-false}
 use mathlib.Core.Path.{sym, _∙_}
 use native.Mathlib.Omega.{arith}
 use Rattle.board.proofs.BoardLaws.{right, bounds}
-use Rattle.machine.proofs.HostLaws.{right-not, right-so}
+use Rattle.machine.proofs.HostLaws.{right-not, right-nor, right-so}
 use Rattle.machine.proofs.machine_right.Statement.{statement}
 use Rattle.machine.proofs.machine_right.Tie as tie
 
@@ -17,4 +17,9 @@ machine-right-spec =
     (λ c κs.
     let r = right _ _ _ _ (sym (c .before .sizes-right .ensures) ∙ not-false _ (c .if1 .left)) in
     (bounds _ (r .board) .few, r .words-right))
-    (λ c. right-so _ _ _ _ _ _ (c .before .before .sizes-right .ensures) (not-false _ (c .before .if1 .left)) (c .good2 .ensures)))
+    (λ c. right-nor _ _ _ _ _ _ (c .before .before .before .sizes-right .ensures) (not-false _ (c .before .before .if1 .left)) (c .before .good2 .ensures) (not-true _ (c .if2 .taken)))
+    (λ c κs.
+    let r = right _ _ _ _ (sym (c .before .before .before .sizes-right .ensures) ∙ not-false _ (c .before .before .if1 .left)) in
+    (bounds _ (r .board) .few, r .sharing-right))
+    (λ c.
+    right-so _ _ _ _ _ _ _ (c .before .before .before .before .sizes-right .ensures) (not-false _ (c .before .before .before .if1 .left)) (c .before .before .good2 .ensures) (not-false _ (c .before .if2 .left)) (c .good3 .ensures)))

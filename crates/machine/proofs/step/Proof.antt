@@ -1,41 +1,25 @@
--- `machine::step` meets its contract: each opcode is its own command. Assumes nothing.
+-- `machine::step` meets its contract. Assumes nothing.
 use borrow.Author.Needs.{needs}
 use mathlib.Core.Path.{refl}
-use Rattle.command.proofs.CarryLaws.{carry}
-use Rattle.command.specs.Outcome.{carried, outcome}
-use Rattle.machine.proofs.HostLaws.{is-idle, is-send, is-reply, is-read, is-write, is-fetch, is-ack, is-other}
+use Rattle.board.proofs.BoardLaws.{bounds}
+use Rattle.sharing.proofs.NoteLaws.{inside}
+use Rattle.machine.proofs.LeftLaws.{leaves-noted, note-of, own-as}
+use Rattle.machine.proofs.Noting.{note-fits, step-notes}
 use Rattle.machine.proofs.step.Statement.{statement}
 use Rattle.machine.proofs.step.Tie as tie
 
 pub step-spec : {M : Type 1} → statement M
-unfolding carried
 step-spec =
     tie.close
     (tie.spec
+    (λ c κs.
+    let p = c .before .before .before .before .pre in
+    inside _ _ _ (bounds _ (p .0 .board) .few) (p .1) (p .0 .there))
     (λ c κs. search needs)
-    (λ c κs. search needs)
-    (λ c κs. search needs)
-    (λ c κs. search needs)
-    (λ c κs. search needs)
-    (λ c κs. search needs)
-    (λ c κs. search needs)
-    (λ c. is-idle _ _ _ _ _ _ _ _ _ _ _ _ (c .match .keys1) (search carry depth 20))
+    (λ c κs.
+    let p = c .before .before .before .before .before .before .before .before .before .before .before .before .before .before .pre in
+    (bounds _ (p .0 .board) .few, p .0 .there, p .1, note-of _ _ _ _ _ _ (c .before .before .before .before .before .dispatch .ensures) (note-fits _ _ _ _ _ _ (step-notes _ _ _ _ _ _ _ _ _))))
     (λ c. search needs)
     (λ c. search needs)
-    (λ c. is-send _ _ _ _ _ _ _ _ _ _ _ _ (c .before .before .before .before .before .before .before .match .keys2) (c .before .before .before .before .send .ensures))
     (λ c. search needs)
-    (λ c. search needs)
-    (λ c. is-reply _ _ _ _ _ _ _ _ _ _ _ _ (c .before .before .before .before .before .before .before .match .keys3) (c .before .before .before .before .reply .ensures))
-    (λ c. search needs)
-    (λ c. search needs)
-    (λ c. is-read _ _ _ _ _ _ _ _ _ _ _ _ (c .before .before .before .before .before .match .keys4) (c .before .before .read .ensures))
-    (λ c. search needs)
-    (λ c. search needs)
-    (λ c. is-write _ _ _ _ _ _ _ _ _ _ _ _ (c .before .before .before .before .before .match .keys5) (c .before .before .write .ensures))
-    (λ c. search needs)
-    (λ c. is-fetch _ _ _ _ _ _ _ _ _ _ _ _ (c .before .before .before .before .match .keys6) (c .before .before .fetch .ensures _))
-    (λ c. search needs)
-    (λ c. is-ack _ _ _ _ _ _ _ _ _ _ _ _ (c .before .before .before .before .match .keys7) (c .before .before .ack-msg .ensures _))
-    (λ c.
-    let r = c .before .match .rest in
-    is-other _ _ _ _ _ _ _ _ _ _ _ _ (r .0 .0 .0 .0 .0 .0 .1) (r .0 .0 .0 .0 .0 .1) (r .0 .0 .0 .0 .1) (r .0 .0 .0 .1) (r .0 .0 .1) (r .0 .1) (r .1) (rw (c .refuse .ensures))))
+    (λ c. leaves-noted _ _ _ _ _ _ _ (own-as _ _ _ _ _ _ _ _ _ _ _ _ _ (c .before .before .before .before .before .before .before .before .before .before .before .before .own .ensures) (c .before .before .before .before .before .before .before .before .dispatch .ensures)) (c .before .before .take-note .ensures)))

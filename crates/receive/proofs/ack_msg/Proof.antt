@@ -6,7 +6,7 @@ use Rattle.slots.proofs.SlotFacts.{usable-own}
 use Rattle.command.specs.Outcome.{carried}
 use Rattle.command.proofs.CheckedLaws.{live-receive}
 use Rattle.receive.specs.Ack.{ACK_MSG}
-use Rattle.receive.proofs.ReceiveLaws.{ack-small, ack-fits, ack-reaches, acked}
+use Rattle.receive.proofs.ReceiveLaws.{ack-small, ack-fits, ack-reaches, acked, freed-as}
 use Rattle.receive.proofs.ack_msg.Statement.{statement}
 use Rattle.receive.proofs.ack_msg.Tie as tie
 
@@ -28,6 +28,7 @@ ack-msg-spec =
     (λ c. search needs)
     (λ c κs. search usable-own)
     (λ c. search (ack-fits, usable-own))
+    (λ c κs. search (ack-small, usable-own))
     (λ c κs. (search needs, search live-receive, search (ack-small, usable-own), search ack-reaches))
     (λ c. search needs)
-    (λ c. λ bs. search (carry, tests, acked) depth 20))
+    (λ c. λ bs. search (carry, tests, acked, freed-as) depth 20))

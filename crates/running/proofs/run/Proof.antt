@@ -6,10 +6,10 @@ use Rattle.running.proofs.run.Statement.{statement}
 use Rattle.running.proofs.run.Tie as tie
 
 abbrev Inv-loop : tie.InvT-loop
-Inv-loop source mode fill b buf₀ words₀ acts₀ mem₀ values₀ given₀ whole s₀ at₀ buf words acts mem values given s at = (at ≤ length source) × (length buf ≡ length buf₀) × (length words ≡ length words₀) × (length acts ≡ length acts₀) × (length mem ≡ length mem₀)
+Inv-loop source mode fill b buf₀ words₀ sharing₀ mem₀ values₀ given₀ whole s₀ at₀ buf words sharing mem values given s at = (at ≤ length source) × (length buf ≡ length buf₀) × (length words ≡ length words₀) × (length sharing ≡ length sharing₀) × (length mem ≡ length mem₀)
 
 abbrev μ-loop : tie.MeasureT-loop
-μ-loop source mode fill b buf₀ words₀ acts₀ mem₀ values₀ given₀ whole s₀ at₀ buf words acts mem values given s at = length source - at
+μ-loop source mode fill b buf₀ words₀ sharing₀ mem₀ values₀ given₀ whole s₀ at₀ buf words sharing mem values given s at = length source - at
 
 is-whole-requires : tie.Need-is-whole-requires Inv-loop μ-loop
 is-whole-requires c κs = search needs

@@ -27,9 +27,9 @@ reply-spec =
     (λ c. search needs)
     (λ c κs. search usable-own)
     (λ c κs.
-    let start = c .before .before .before .before .before .before .before .before .before .before .before .before .before in
+    let start = c .before .before .before .before .before .before .before .before .before .before .before .before .before .before in
     let u = usable-own _ _ _ _ _ _ (start .pre .0) (c .before .before .before .before .before .before .before .before .before .endpoint-at .ensures) (c .before .before .before .before .before .before .before .g .given .1) in
-    (start .pre .0, start .pre .1, named _ _ _ _ _ _ _ _ _ u (c .before .before .before .before .before .from-checks .ensures) (c .before .before .before .enum-told .given .1) (c .before .before .before .before .before .before .before .before .before .endpoint-at .ensures) (c .before .before .before .before .before .before .before .g .given .1) (c .before .before .slot-named .ensures)))
+    (start .pre .0, start .pre .1, start .pre .2, named _ _ _ _ _ _ _ _ _ u (c .before .before .before .before .before .from-checks .ensures) (c .before .before .before .enum-told .given .1) (c .before .before .before .before .before .before .before .before .before .endpoint-at .ensures) (c .before .before .before .before .before .before .before .g .given .1) (c .before .before .slot-named .ensures)))
     (λ c. search needs)
     (λ c. search needs)
     (λ c. search (carry, tests, answer-as) depth 20))
