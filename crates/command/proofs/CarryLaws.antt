@@ -3,7 +3,7 @@
 use Prim.Native.Nat.{ℕ}
 use mathlib.Core.Bool.{Bool, true, false, cond}
 use mathlib.Core.List.{List, [], _∷_}
-use mathlib.Core.Path.{_≡_, refl, sym, _∙_, ap}
+use mathlib.Core.Path.{_≡_, refl}
 use types.Run.{OneOf}
 use denote.Enum.Declared.{tagOf}
 use Rattle.numbers.specs.Choice.{_gives_else_}
@@ -14,7 +14,6 @@ use Rattle.answers.proofs.Answer as answer-type
 use Rattle.bits.specs.declared.Found.{Found}
 use Rattle.bits.specs.declared.Found.the-variants.{At, Nothing}
 use Rattle.memory.specs.Bytes.{put}
-use Rattle.endpoint.specs.Kinds.{sendOf, receiveOf, memoryOf}
 use Rattle.endpoint.specs.declared.Endpoint.{Endpoint}
 use Rattle.endpoint.specs.declared.Endpoint.the-variants.{Send, Receive, Memory}
 use Rattle.endpoint.specs.declared.SendFields.{SendFields}
@@ -27,7 +26,7 @@ use Rattle.command.specs.Checks.{Check, _⇒_, first, _then_, _fails_els
 use Rattle.command.specs.Command.{Write, _⇐_to_, Put, nothing, bytesTo, Effect, Command, does, _noting_, _▸_, _▸▸_, send_or_gives_, receive_or_gives_, memory_or_gives_, slot_or_gives_, slot_else_gives_}
 use Rattle.command.specs.Outcome.{outcome, finishes, written, placed, settled}
 use Rattle.command.specs.declared.Completion.{Completion}
-use Rattle.command.proofs.CheckLaws.{stop-with, pass-group, refused, not-is-true, not-is-false, yes-send, no-send, yes-receive, no-receive, yes-memory, no-memory}
+use Rattle.command.proofs.CheckLaws.{stop-with, pass-group, not-is-true, not-is-false, yes-send, no-send, yes-receive, no-receive, yes-memory, no-memory}
 
 module _ {X : Type 0} (f : Error → X) (g : Effect → X) (o : X) where
   -- ---- one check

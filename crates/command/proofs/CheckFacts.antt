@@ -1,12 +1,12 @@
 -- What an answer says of the checks: all have passed in an accepted command; in a refused one those before have passed, and the
 -- only one with that refusal has failed. A check is named by its place in the list, counted from 0. Assumes nothing.
-use mathlib.Core.Path.{_≡_, refl, sym, ap, _∙_}
+use mathlib.Core.Path.{_≡_, refl}
 use mathlib.Core.Bool.{Bool, true, false, cond, not}
 use mathlib.Core.List.{List, [], _∷_}
 use mathlib.Core.Logic.{_⊎_, inl, inr}
 use Prim.Native.Nat.{ℕ, zero, suc}
 use native.Mathlib.Omega.{arith}
-use lib.Dec.{T, T-not, eqb, eqb-refl}
+use lib.Dec.{T, eqb, eqb-refl}
 use Rattle.answers.specs.Answers.{codeOf}
 use Rattle.answers.specs.declared.Error.{Error}
 use Rattle.answers.specs.declared.Answer.{Answer}

@@ -13,7 +13,7 @@ use Rattle.board.specs.declared.Board.{Board}
 use Rattle.endpoint.specs.Kinds.{isInvalid}
 use Rattle.endpoint.specs.Acceptable.{acceptable}
 use Rattle.endpoint.specs.declared.Endpoint.{Endpoint}
-use Rattle.endpoint.specs.declared.Endpoint.the-variants.{Invalid, Send, Receive, Memory}
+use Rattle.endpoint.specs.declared.Endpoint.the-variants.{Invalid, Send, Receive}
 use Rattle.endpoint.specs.declared.SendFields.{SendFields}
 use Rattle.endpoint.specs.declared.ReceiveFields.{ReceiveFields}
 use Rattle.table.specs.Table.{Table, place, endpointAt, view}

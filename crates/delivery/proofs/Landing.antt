@@ -1,9 +1,9 @@
 -- What is known of a message whose target was found: each fact out of the lists of checks, by its place. Assumes nothing.
 use Prim.Native.Nat.{ℕ, _+_, _*_, _^_, _<_, _≤_}
-use mathlib.Core.Bool.{Bool, true, false, cond}
-use mathlib.Core.List.{List, [], _∷_}
+use mathlib.Core.Bool.{Bool, true, false}
+use mathlib.Core.List.{List}
 use mathlib.Core.Path.{_≡_, refl, sym, ap, _∙_}
-use native.Mathlib.Nat.{mul-le-mul-right, suc-mul, le-trans}
+use native.Mathlib.Nat.{mul-le-mul-right, suc-mul}
 use native.Mathlib.Omega.{arith}
 use lib.ListN.{length}
 use borrow.Author.Tests.{leb-false}

@@ -1,13 +1,12 @@
 -- The rules by which `search` proves a return of the functions that find a message's target, and what `delivered` comes to once
 -- the target is known. Assumes nothing.
-use Prim.Native.Nat.{ℕ, _+_, _*_, _^_, _<_, _≤_}
+use Prim.Native.Nat.{ℕ, _+_, _*_, _<_, _≤_}
 use mathlib.Core.Bool.{Bool, true, false}
 use mathlib.Core.List.{List, [], _∷_}
 use mathlib.Core.Path.{_≡_, refl, sym, ap, _∙_}
 use native.Mathlib.Omega.{arith}
 use types.Run.{OneOf}
 use denote.Enum.Declared.{tagOf}
-use lib.Dec.{leb}
 use lib.ListN.{length}
 use borrow.Author.Tests.{leb-false}
 use Rattle.numbers.specs.Choice.{_gives_else_}
@@ -21,7 +20,6 @@ use Rattle.bits.specs.declared.Found.{Found}
 use Rattle.bits.specs.declared.Found.the-variants.{At, Nothing}
 use Rattle.board.specs.declared.Board.{Board}
 use Rattle.board.proofs.BoardLaws.{bounds}
-use Rattle.endpoint.specs.Kinds.{isReceive, receiveOf}
 use Rattle.endpoint.specs.declared.Endpoint.{Endpoint}
 use Rattle.endpoint.specs.declared.Endpoint.the-variants.{Invalid, Send, Receive, Memory}
 use Rattle.endpoint.specs.declared.SendFields.{SendFields}

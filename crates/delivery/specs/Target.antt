@@ -1,10 +1,8 @@
 -- Where a message goes: the receiver's record and the slot, or the refusal of its delivery. It is what `delivered` comes to
 -- before SEND or REPLY says what is written (`proofs/TargetLaws.antt`, `lands`).
 use Prim.Native.Nat.{ℕ}
-use mathlib.Core.Bool.{Bool}
 use mathlib.Core.List.{List}
 use Rattle.numbers.specs.Choice.{_gives_else_}
-use Rattle.answers.specs.declared.Error.{Error}
 use Rattle.answers.specs.declared.Error.the-variants.{RecvGone, RecvNoSpace}
 use Rattle.bits.specs.declared.Found.{Found}
 use Rattle.bits.specs.declared.Found.the-variants.{At, Nothing}

@@ -11,7 +11,6 @@ use Rattle.numbers.specs.Choice.{_gives_else_}
 use Rattle.numbers.proofs.TestLaws.{split-and}
 use Rattle.answers.specs.Answers.{codeOf}
 use Rattle.answers.specs.declared.Error.{Error}
-use Rattle.answers.specs.declared.Error.the-variants.{UnknownCmd}
 use Rattle.answers.proofs.AnswerLaws.{code-injective}
 use Rattle.bits.specs.declared.Found.{Found}
 use Rattle.bits.specs.declared.Found.the-variants.{At, Nothing}
@@ -20,9 +19,8 @@ use Rattle.endpoint.specs.Kinds.{receiveOf, memoryOf}
 use Rattle.endpoint.specs.declared.MemoryFields.{MemoryFields}
 use Rattle.table.specs.Table.{Table, endpointAt, view}
 use Rattle.slots.specs.Slots.{unreadSlot}
-use Rattle.sharing.specs.Sharing.{wordAt, ownOf}
+use Rattle.sharing.specs.Sharing.{ownOf}
 use Rattle.sharing.specs.Note.{noted}
-use Rattle.sharing.specs.declared.Note.{Note}
 use Rattle.command.specs.Checks.{Check, _⇒_, first, _then_}
 use Rattle.command.specs.Command.{Command, does, _noting_, nothing, _▸_, _▸▸_, send_or_gives_, receive_or_gives_, memory_or_gives_, slot_or_gives_, slot_else_gives_}
 use Rattle.command.specs.Outcome.{outcome, carried}
@@ -36,6 +34,7 @@ use Rattle.delivery.specs.Delivery.{messageChecks, farChecks, fitChecks, delive
 use Rattle.messages.specs.Send.{lastChecks, sendChecks, requestOf, SEND}
 use Rattle.messages.specs.Reply.{fromChecks, replyChecks, responseOf, answerOf, REPLY}
 use Rattle.machine.specs.Machine.{Opcode, opIdle, opSend, opReply, opRead, opWrite, opFetch, opAck, opOther, opcodeOf, stepOf, privilegedStep, hostChecks, commandOf, configureOf, invalidateOf, privilegedOf, respondOf, Left, left, leftBy}
+use Rattle.machine.proofs.PrivilegedLaws.{one-of-three}
 use Rattle.machine.specs.Demand1.{hostRefusals, accessRefusals, refusalsOf, configureRefusals, invalidateRefusals, privilegedRefusals, From, Settles, Demand1}
 
 -- ---- the refusal of a list of checks is one that stands in it
@@ -101,14 +100,8 @@ step-within b t sh bs own tile opAck ep a = refl
 step-within b t sh bs own tile opOther ep a = refl
 
 privileged-within : (sh : List ℕ) (tile op arg0 arg1 : ℕ) → within privilegedRefusals ((privilegedStep sh tile op arg0 arg1) .checks) ≡ true
-unfolding privilegedStep _gives_else_ _▸_ does _noting_
-privileged-within sh tile op arg0 arg1 = go (eqb op 0) (eqb op 4)
-  where
-    go : (x y : Bool)
-        → within privilegedRefusals ((x gives does [] nothing arg1 else y gives (does [] nothing (wordAt sh tile 0) noting Note.Exchanged (arg0 % 4294967296)) else (true ⇒ UnknownCmd ▸ does [] nothing arg1)) .checks) ≡ true
-    go true y = refl
-    go false true = refl
-    go false false = refl
+unfolding _▸_ does _noting_
+privileged-within sh tile op arg0 arg1 = one-of-three (λ k. within privilegedRefusals (k .checks) ≡ true) sh tile op arg0 arg1 refl refl refl
 
 -- ---- any command: what it settles to
 module _ (x : ℕ) (ws bs : List ℕ) (k : Command) where

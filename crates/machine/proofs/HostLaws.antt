@@ -1,10 +1,9 @@
 -- The rules of the dispatcher and of the host's own checks. Assumes nothing.
-use Prim.Native.Nat.{ℕ, _*_, _<_}
+use Prim.Native.Nat.{ℕ, _<_}
 use mathlib.Core.Bool.{Bool, true, false, not, _&&_}
 use mathlib.Core.List.{List, [], _∷_}
-use mathlib.Core.Path.{_≡_, refl, sym, ap, _∙_}
-use native.Mathlib.Omega.{arith}
-use lib.Dec.{eqb, leb}
+use mathlib.Core.Path.{_≡_, refl, sym, _∙_}
+use lib.Dec.{leb}
 use lib.ListN.{length}
 use borrow.Author.Tests.{lt-leb, leb-false, ne-eqb, not-false}
 use Rattle.numbers.specs.Choice.{_gives_else_}
@@ -14,8 +13,8 @@ use Rattle.answers.specs.declared.Answer.{Answer}
 use Rattle.answers.specs.declared.Answer.the-variants.{None, Refused}
 use Rattle.board.specs.Board.{bytesOf, sizeOf, sizesRight}
 use Rattle.board.specs.declared.Board.{Board}
-use Rattle.board.proofs.BoardLaws.{Right, right, bounds}
-use Rattle.endpoint.specs.Endpoint.{fieldsOf, wordsOf}
+use Rattle.board.proofs.BoardLaws.{right, bounds}
+use Rattle.endpoint.specs.Endpoint.{fieldsOf}
 use Rattle.endpoint.specs.Acceptable.{acceptableWords}
 use Rattle.endpoint.specs.declared.Words.{Words}
 use Rattle.endpoint.proofs.RoundTrip.{words-back}
@@ -24,9 +23,9 @@ use Rattle.table.specs.Table.{Table, place, stored}
 use Rattle.table.specs.Good.{goodTable}
 use Rattle.sharing.specs.Sharing.{Inside, Shared, sharingGood}
 use Rattle.sharing.proofs.NoteLaws.{inside}
-use Rattle.command.specs.Checks.{_⇒_, first}
+use Rattle.command.specs.Checks.{first}
 use Rattle.command.specs.Checked.{Checked}
-use Rattle.command.specs.Command.{_⇐_to_, nothing, does, _▸_}
+use Rattle.command.specs.Command.{_⇐_to_, nothing, does}
 use Rattle.command.specs.Outcome.{Outcome, outcome, completes, written, carried}
 use Rattle.command.specs.declared.Registers.{Registers}
 use Rattle.command.proofs.CheckFacts.{passed}
@@ -36,7 +35,7 @@ use Rattle.receive.specs.Fetch.{FETCH}
 use Rattle.receive.specs.Ack.{ACK_MSG}
 use Rattle.messages.specs.Send.{SEND}
 use Rattle.messages.specs.Reply.{REPLY}
-use Rattle.machine.specs.Machine.{Opcode, opIdle, opSend, opReply, opRead, opWrite, opFetch, opAck, opOther, opcodeOf, stepOf, machineRight, hostChecks, configureOf}
+use Rattle.machine.specs.Machine.{Opcode, opIdle, opSend, opReply, opRead, opWrite, opFetch, opAck, opcodeOf, stepOf, machineRight, hostChecks, configureOf}
 
 -- ---- the dispatcher: op is the number that a `match` found
 module _ (o : Outcome) (x : ℕ) (ws us : List ℕ) (b : Board) (t : Table) (sh bs : List ℕ) (own tile op ep : ℕ) (a : Registers) where

@@ -1,16 +1,13 @@
 -- A right machine stays right under every call, whatever is answered; and the table that its words hold changes as the command's
 -- writes say. Assumes nothing.
-use Prim.Native.Nat.{ℕ, _*_, _/_, _%_, _<_}
-use mathlib.Core.Bool.{Bool, true, false, _&&_}
+use Prim.Native.Nat.{ℕ, _*_, _/_, _<_}
+use mathlib.Core.Bool.{true, false, _&&_}
 use mathlib.Core.List.{List, [], _∷_}
 use mathlib.Core.Path.{_≡_, sym, _∙_}
 use native.Mathlib.Omega.{arith}
-use lib.Dec.{eqb}
 use lib.ListN.{length}
 use borrow.Author.Tests.{leb-false, not-false}
-use Rattle.numbers.specs.Choice.{_gives_else_}
 use Rattle.numbers.proofs.TestLaws.{split-and}
-use Rattle.answers.specs.declared.Error.the-variants.{UnknownCmd}
 use Rattle.answers.specs.declared.Answer.the-variants.{None}
 use Rattle.board.specs.Board.{allowed, sizeOf, sizesRight}
 use Rattle.board.specs.declared.Board.{Board}
@@ -21,9 +18,8 @@ use Rattle.endpoint.proofs.RoundTrip.{words-back}
 use Rattle.table.specs.Table.{place, view}
 use Rattle.table.specs.Good.{memoryAt, goodTable}
 use Rattle.table.proofs.TableLaws.{good-at}
-use Rattle.sharing.specs.Sharing.{wordAt, Shared, sharingGood, ownOf}
+use Rattle.sharing.specs.Sharing.{Shared, sharingGood, ownOf}
 use Rattle.sharing.specs.Note.{noted, NoteFits}
-use Rattle.sharing.specs.declared.Note.{Note}
 use Rattle.sharing.proofs.NoteLaws.{shared-noted}
 use Rattle.command.specs.Checks.{Check, _⇒_, first, _then_}
 use Rattle.command.specs.Command.{Command, does, _noting_, nothing, _▸_, _▸▸_, memory_or_gives_}
@@ -32,10 +28,11 @@ use Rattle.command.specs.declared.Registers.{Registers}
 use Rattle.command.proofs.CheckFacts.{passed}
 use Rattle.command.proofs.WriteLaws.{Fits, by-answer, carried-refused, carried-accepted, length-words, length-bytes, good-words, view-words}
 use Rattle.access.specs.Access.{READ, WRITE}
-use Rattle.machine.specs.Machine.{Opcode, opIdle, opSend, opReply, opRead, opWrite, opFetch, opAck, opOther, opcodeOf, stepOf, privilegedStep, machineRight, hostChecks, commandOf, configureOf, invalidateOf, privilegedOf, respondOf, left, leftBy}
+use Rattle.machine.specs.Machine.{Opcode, opIdle, opSend, opReply, opRead, opWrite, opFetch, opAck, opOther, opcodeOf, stepOf, machineRight, hostChecks, commandOf, configureOf, invalidateOf, privilegedOf, respondOf, left, leftBy}
 use Rattle.machine.specs.Kept.{Stays, after, Keeps, Follows, EveryCall}
 use Rattle.command.specs.Narrow.{Narrow}
 use Rattle.machine.proofs.Fitting.{invalid-ok, send-fits, reply-fits, ack-fits, fetch-fits}
+use Rattle.machine.proofs.PrivilegedLaws.{one-of-three}
 use Rattle.machine.proofs.Noting.{step-notes, privileged-notes}
 
 -- ---- every command's writes fit
@@ -149,14 +146,8 @@ module _ (b : Board) (ws sh bs : List ℕ) (tile : ℕ) where
 
   -- the privileged side writes nothing
   privileged-fits : (op arg0 arg1 : ℕ) → Fits b ((privilegedOf b ws sh bs tile op arg0 arg1) .effect .writes)
-  unfolding privilegedOf privilegedStep _gives_else_ _▸▸_ _▸_ does _noting_
-  privileged-fits op arg0 arg1 = go (eqb op 0) (eqb op 4)
-    where
-      go : (x y : Bool)
-          → Fits b ((x gives does [] nothing arg1 else y gives (does [] nothing (wordAt sh tile 0) noting Note.Exchanged (arg0 % 4294967296)) else (true ⇒ UnknownCmd ▸ does [] nothing arg1)) .effect .writes)
-      go true y = tt
-      go false true = tt
-      go false false = tt
+  unfolding privilegedOf _▸▸_ _▸_ does _noting_
+  privileged-fits op arg0 arg1 = one-of-three (λ k. Fits b (k .effect .writes)) sh tile op arg0 arg1 tt tt tt
 
   privileged-on : (op arg0 arg1 : ℕ) → first ((privilegedOf b ws sh bs tile op arg0 arg1) .checks) ≡ None → tile < b .tiles
   unfolding privilegedOf hostChecks _▸▸_ _then_

@@ -1,15 +1,14 @@
 -- What the public functions leave, from what the inner ones answered. Assumes nothing.
 use Prim.Native.Nat.{ℕ}
 use mathlib.Core.List.{List}
-use mathlib.Core.Path.{_≡_, refl, sym, ap, _∙_}
+use mathlib.Core.Path.{_≡_, refl, ap}
 use Rattle.answers.specs.declared.Error.{Error}
 use Rattle.answers.specs.declared.Answer.{Answer}
 use Rattle.answers.specs.declared.Answer.the-variants.{None, Refused}
 use Rattle.board.specs.declared.Board.{Board}
 use Rattle.table.specs.Table.{Table}
-use Rattle.sharing.specs.Sharing.{Shared, ownOf, waitingIn}
+use Rattle.sharing.specs.Sharing.{ownOf}
 use Rattle.sharing.specs.Note.{noted, NoteFits}
-use Rattle.sharing.specs.declared.Note.{Note}
 use Rattle.sharing.specs.declared.Waiting.{Waiting}
 use Rattle.command.specs.Checks.{Check, first, _fails_else_}
 use Rattle.command.specs.Command.{Command, _▸▸_}
@@ -17,7 +16,7 @@ use Rattle.command.specs.Outcome.{Outcome, outcome, completes, carried}
 use Rattle.command.specs.declared.Completion.{Completion}
 use Rattle.command.specs.declared.Registers.{Registers}
 use Rattle.command.proofs.CarryLaws.{go-on-group}
-use Rattle.machine.specs.Machine.{Opcode, stepOf, waitsOf, hostChecks, left, leftBy}
+use Rattle.machine.specs.Machine.{Opcode, stepOf, left, leftBy}
 use Rattle.machine.specs.declared.Waits.{Waits}
 
 -- ---- the records

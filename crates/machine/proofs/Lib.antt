@@ -1,4 +1,5 @@
 pub mod HostLaws
+pub mod PrivilegedLaws
 pub mod Fitting
 pub mod Noting
 pub mod LeftLaws

@@ -1,14 +1,12 @@
 -- What an accepted command notes fits the records: a message that came has a tile of the board, an endpoint, and a place for its
 -- request where one is queued. Each fact is out of the command's checks, named by their places. Assumes nothing.
-use Prim.Native.Nat.{ℕ, _+_, _*_, _%_, _^_, _<_}
+use Prim.Native.Nat.{ℕ, _+_, _*_, _^_, _<_}
 use mathlib.Core.Bool.{Bool, true, false}
 use mathlib.Core.List.{List, []}
-use mathlib.Core.Path.{_≡_, refl, ap}
+use mathlib.Core.Path.{_≡_, ap}
 use native.Mathlib.Omega.{arith}
-use lib.Dec.{eqb}
 use borrow.Author.Tests.{leb-false, not-false}
 use Rattle.numbers.specs.Choice.{_gives_else_}
-use Rattle.answers.specs.declared.Error.the-variants.{UnknownCmd}
 use Rattle.answers.specs.declared.Answer.the-variants.{None}
 use Rattle.bits.specs.Bits.{hasBit}
 use Rattle.bits.specs.declared.Found.{Found}
@@ -19,12 +17,12 @@ use Rattle.endpoint.specs.declared.SendFields.{SendFields}
 use Rattle.endpoint.specs.declared.ReceiveFields.{ReceiveFields}
 use Rattle.table.specs.Table.{Table, endpointAt}
 use Rattle.table.proofs.TableLaws.{live}
-use Rattle.sharing.specs.Sharing.{wordAt, waitingOf, crowded}
+use Rattle.sharing.specs.Sharing.{waitingOf, crowded}
 use Rattle.sharing.specs.Note.{Fits, NoteFits}
 use Rattle.sharing.specs.declared.Note.{Note}
 use Rattle.sharing.specs.declared.Note.the-variants.{Read}
-use Rattle.slots.specs.Slots.{freeSlot, unreadSlot, slotNamed}
-use Rattle.command.specs.Checks.{_⇒_, first, _then_}
+use Rattle.slots.specs.Slots.{unreadSlot, slotNamed}
+use Rattle.command.specs.Checks.{first, _then_}
 use Rattle.command.specs.Command.{Command, does, _noting_, nothing, _▸_, _▸▸_, send_or_gives_, receive_or_gives_, memory_or_gives_, slot_or_gives_, slot_else_gives_}
 use Rattle.command.specs.Outcome.{outcome, carried}
 use Rattle.command.specs.declared.Registers.{Registers}
@@ -37,6 +35,7 @@ use Rattle.messages.specs.Reply.{fromChecks, replyChecks, responseOf, answerOf,
 use Rattle.receive.specs.Fetch.{fetchWrites, FETCH}
 use Rattle.receive.specs.Ack.{freeing, ACK_MSG}
 use Rattle.machine.specs.Machine.{Opcode, opIdle, opSend, opReply, opRead, opWrite, opFetch, opAck, opOther, stepOf, privilegedStep}
+use Rattle.machine.proofs.PrivilegedLaws.{one-of-three}
 use Rattle.machine.proofs.Fitting.{is-receive}
 
 -- what was accepted, of any command
@@ -104,11 +103,5 @@ module _ (b : Board) (t : Table) (sh : List ℕ) where
     step-notes opOther h = tt
 
 pub privileged-notes : (b : Board) (sh : List ℕ) (tile op arg0 arg1 : ℕ) → NoteFits b sh ((privilegedStep sh tile op arg0 arg1) .effect .notes)
-unfolding privilegedStep _gives_else_ does _noting_ _▸_
-privileged-notes b sh tile op arg0 arg1 = go (eqb op 0) (eqb op 4)
-  where
-    go : (x y : Bool)
-        → NoteFits b sh ((x gives does [] nothing arg1 else y gives (does [] nothing (wordAt sh tile 0) noting Note.Exchanged (arg0 % 4294967296)) else (true ⇒ UnknownCmd ▸ does [] nothing arg1)) .effect .notes)
-    go true y = tt
-    go false true = omega arith
-    go false false = tt
+unfolding does _noting_ _▸_
+privileged-notes b sh tile op arg0 arg1 = one-of-three (λ k. NoteFits b sh (k .effect .notes)) sh tile op arg0 arg1 tt (omega arith) tt

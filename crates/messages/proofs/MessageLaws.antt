@@ -1,8 +1,8 @@
 -- What SEND and REPLY share once their own checks have passed. Assumes nothing.
-use Prim.Native.Nat.{ℕ, _+_, _*_, _^_, _<_, _≤_}
-use mathlib.Core.Bool.{Bool, true, false}
+use Prim.Native.Nat.{ℕ, _+_, _<_, _≤_}
+use mathlib.Core.Bool.{Bool, false}
 use mathlib.Core.List.{List}
-use mathlib.Core.Path.{_≡_, sym, _∙_}
+use mathlib.Core.Path.{_≡_}
 use native.Mathlib.Omega.{arith}
 use mir.Syntax.{w8}
 use mir.Val.{Fits}
@@ -21,7 +21,7 @@ use Rattle.table.specs.Table.{view}
 use Rattle.sharing.specs.declared.Arrival.{Arrival}
 use Rattle.sharing.specs.declared.Note.the-variants.{Came}
 use Rattle.command.specs.Checked.{Checked}
-use Rattle.command.specs.Outcome.{written, placed}
+use Rattle.command.specs.Outcome.{placed}
 use Rattle.command.specs.declared.Registers.{Registers}
 use Rattle.delivery.specs.Header.{headerFields}
 use Rattle.delivery.specs.Delivery.{tooLong, messageTo}

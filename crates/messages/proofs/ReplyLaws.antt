@@ -1,18 +1,15 @@
 -- What an accepted REPLY is known to have before its delivery, each fact by its check's place, and the rules of its writes.
 -- Assumes nothing.
-use Prim.Native.Nat.{ℕ, _+_, _*_, _<_, _≤_}
-use mathlib.Core.Bool.{Bool, true, false, not, _&&_}
+use Prim.Native.Nat.{ℕ, _+_, _<_}
+use mathlib.Core.Bool.{Bool, true, false}
 use mathlib.Core.List.{List, [], _∷_}
-use mathlib.Core.Logic.{_⊎_, ⊎-elim}
-use mathlib.Core.Path.{_≡_, refl, sym, ap, _∙_}
+use mathlib.Core.Path.{_≡_, sym, ap, _∙_}
 use native.Mathlib.Omega.{arith}
 use types.Run.{OneOf}
 use denote.Enum.Declared.{tagOf}
 use mir.Syntax.{w8}
 use mir.Val.{Fits}
-use lib.Dec.{eqb, leb}
-use lib.ListN.{length}
-use borrow.Author.Tests.{eqb-false, ne-eqb, leb-false}
+use borrow.Author.Tests.{ne-eqb, leb-false}
 use Rattle.numbers.specs.Choice.{_gives_else_}
 use Rattle.numbers.specs.Tests.{All}
 use Rattle.numbers.proofs.SumLaws.{above-false}
@@ -22,7 +19,7 @@ use Rattle.answers.specs.declared.Answer.the-variants.{None}
 use Rattle.board.specs.Board.{sizeOf, bytesOf}
 use Rattle.board.specs.declared.Board.{Board}
 use Rattle.endpoint.specs.Acceptable.{acceptable}
-use Rattle.endpoint.specs.Kinds.{isSend, sendOf, noSend}
+use Rattle.endpoint.specs.Kinds.{sendOf, noSend}
 use Rattle.endpoint.specs.Layout.{fit}
 use Rattle.endpoint.specs.declared.Endpoint.{Endpoint}
 use Rattle.endpoint.specs.declared.Endpoint.the-variants.{Invalid, Send, Receive, Memory}

@@ -1,15 +1,14 @@
 -- What an accepted SEND is known to have before its delivery: each fact out of its list of checks, by its place. Assumes nothing.
-use Prim.Native.Nat.{ℕ, _+_, _<_, _≤_}
+use Prim.Native.Nat.{ℕ, _<_, _≤_}
 use mathlib.Core.Bool.{Bool, true, false, not, _&&_}
 use mathlib.Core.List.{List, [], _∷_}
 use mathlib.Core.Logic.{_⊎_, ⊎-elim}
-use mathlib.Core.Path.{_≡_, refl, sym, ap, _∙_}
+use mathlib.Core.Path.{_≡_, refl, sym, _∙_}
 use native.Mathlib.Omega.{arith}
 use types.Run.{OneOf}
 use denote.Enum.Declared.{tagOf}
 use lib.Dec.{eqb}
-use lib.ListN.{length}
-use borrow.Author.Tests.{eqb-true, eqb-false, not-false}
+use borrow.Author.Tests.{eqb-true, eqb-false}
 use Rattle.numbers.specs.Choice.{_gives_else_}
 use Rattle.numbers.specs.Tests.{All}
 use Rattle.numbers.proofs.SumLaws.{above-false}
@@ -26,7 +25,7 @@ use Rattle.endpoint.specs.declared.SendFields.{SendFields}
 use Rattle.endpoint.specs.declared.ReceiveFields.{ReceiveFields}
 use Rattle.endpoint.proofs.Endpoint as endpoint-type
 use Rattle.endpoint.proofs.EndpointLaws.{accepted}
-use Rattle.table.specs.Table.{Table, endpointAt, view}
+use Rattle.table.specs.Table.{endpointAt, view}
 use Rattle.table.proofs.TableLaws.{live}
 use Rattle.command.specs.Checks.{first, _then_}
 use Rattle.command.specs.Checked.{Checked}

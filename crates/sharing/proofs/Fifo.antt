@@ -1,15 +1,13 @@
 -- The requests of a tile wait first in, first out. Assumes nothing.
 use Prim.Native.Nat.{ℕ, zero, suc, _+_, _-_, _*_, _%_, _<_, _≤_}
-use mathlib.Core.Bool.{Bool, true, false}
 use mathlib.Core.List.{List}
-use mathlib.Core.Path.{_≡_, refl, sym, ap, _∙_}
+use mathlib.Core.Path.{_≡_, refl, _∙_}
 use native.Mathlib.Omega.{arith}
-use lib.Dec.{eqb}
 use lib.ListN.{length}
-use borrow.Author.Tests.{eqb-true, ne-eqb}
+use borrow.Author.Tests.{ne-eqb}
 use Rattle.numbers.specs.Choice.{_gives_else_}
 use Rattle.sharing.specs.Sharing.{wordAt, setAt, oldestOf, waitingOf, requestAt, queued, responded}
-use Rattle.sharing.specs.Fifo.{Fifo, FirstInFirstOut}
+use Rattle.sharing.specs.Fifo.{FirstInFirstOut}
 use Rattle.sharing.proofs.ShareLaws.{length-set-at, word-same, word-other}
 
 module _ (sh : List ℕ) (tile : ℕ) (l : tile * 67 + 67 ≤ length sh) where

@@ -3,10 +3,9 @@ use Prim.Native.Nat.{ℕ, zero, suc, _+_, _-_, _*_, _/_, _%_, _^_, _<_, _≤_}
 use mathlib.Core.Bool.{Bool, true, false}
 use mathlib.Core.List.{List}
 use mathlib.Core.Logic.{_≢_, _⊎_, ⊎-elim}
-use mathlib.Core.Path.{_≡_, refl, sym, ap, _∙_}
+use mathlib.Core.Path.{_≡_, refl, _∙_}
 use native.Mathlib.Nat.{eq-or-lt-of-le}
 use native.Mathlib.Omega.{arith}
-use lib.Dec.{eqb}
 use lib.ListN.{length}
 use borrow.Author.Tests.{eq-eqb, lt-ltb}
 use Rattle.numbers.specs.Choice.{_gives_else_}
@@ -16,7 +15,7 @@ use Rattle.sharing.specs.Note.{noted, Fits, NoteFits}
 use Rattle.sharing.specs.declared.Arrival.{Arrival}
 use Rattle.sharing.specs.declared.Note.{Note}
 use Rattle.sharing.specs.declared.Note.the-variants.{Nothing, Came, Read, Exchanged, Responded}
-use Rattle.sharing.proofs.ShareLaws.{length-set-at, word-same, word-other, length-counted, length-queued, length-arrived, length-responded, Good, good-at, same-good, still-shared}
+use Rattle.sharing.proofs.ShareLaws.{length-set-at, word-same, word-other, length-queued, good-at, still-shared}
 use Rattle.sharing.proofs.Fifo.{queued-oldest, queued-more, queued-last, queued-kept, turned, without, responds, responds-not, without-oldest, without-waiting, without-request}
 
 -- a tile's record lies among the lent words

@@ -2,19 +2,18 @@
 use Prim.Native.Nat.{ℕ, _+_, _-_, _*_, _%_, _<_, _≤_}
 use mathlib.Core.Bool.{Bool, true, false, _&&_}
 use mathlib.Core.List.{List}
-use mathlib.Core.Path.{_≡_, refl, sym, ap, _∙_}
+use mathlib.Core.Path.{_≡_, refl, _∙_}
 use mathlib.Core.Logic.{_≢_}
 use native.Mathlib.Omega.{arith}
 use lib.Dec.{ltb, leb, eqb}
-use lib.ListN.{length, getD, set, length-set}
+use lib.ListN.{length, set, length-set}
 use lib.Seq.{getD-set-same, getD-set-other}
 use borrow.Author.Tests.{ltb-true, leb-true, eqb-true, eqb-false, lt-ltb, le-leb}
 use Rattle.numbers.specs.Choice.{_gives_else_}
 use Rattle.numbers.proofs.TestLaws.{split-and}
-use Rattle.bits.specs.Search.{all}
 use Rattle.bits.proofs.SearchLaws.{all-at, all-true, all-false}
 use Rattle.board.specs.declared.Board.{Board}
-use Rattle.sharing.specs.Sharing.{wordAt, setAt, oldestOf, waitingOf, requestAt, requestGood, headGood, recordGood, sharingGood, Shared, counted, queued, arrived, taken, responded, exchanged, foreign, requestWord}
+use Rattle.sharing.specs.Sharing.{wordAt, setAt, oldestOf, waitingOf, requestAt, requestGood, headGood, recordGood, sharingGood, Shared, counted, queued, arrived, responded, foreign, requestWord}
 
 -- ---- one word set
 pub length-set-at : (sh : List ℕ) (tile k v : ℕ) → length (setAt sh tile k v) ≡ length sh

@@ -4,7 +4,7 @@ use Prim.Native.Nat.{ℕ, _+_, _-_, _*_, _<_, _≤_}
 use mathlib.Core.List.{List}
 use mathlib.Core.Path.{_≡_}
 use lib.ListN.{length}
-use Rattle.sharing.specs.Sharing.{oldestOf, waitingOf, requestAt, queued, responded}
+use Rattle.sharing.specs.Sharing.{waitingOf, requestAt, queued, responded}
 
 -- of any records in which the tile's lie, with at most 64 waiting
 pub record Fifo (sh : List ℕ) (tile : ℕ) : Type 0 where

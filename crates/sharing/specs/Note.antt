@@ -1,6 +1,6 @@
 -- What a command notes in the sharing records, and what the records are then. A note is a part of what a command is.
 use Prim.Native.Nat.{ℕ, _<_, _^_}
-use mathlib.Core.Bool.{Bool, true}
+use mathlib.Core.Bool.{true}
 use mathlib.Core.List.{List}
 use mathlib.Core.Path.{_≡_}
 use Rattle.numbers.specs.Choice.{_gives_else_}

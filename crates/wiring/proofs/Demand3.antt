@@ -1,24 +1,23 @@
 -- Demand 3 of the machine on words: sound wiring gives the invariant, a run keeps it, and it gives the three claims.
 -- Assumes nothing.
-use Prim.Native.Nat.{ℕ, _*_, _%_, _<_}
+use Prim.Native.Nat.{ℕ, _*_, _<_}
 use mathlib.Core.Bool.{Bool, true, false, not}
 use mathlib.Core.List.{List, [], _∷_}
 use mathlib.Core.Logic.{_⊎_}
 use mathlib.Core.Path.{_≡_, refl, sym, _∙_}
 use borrow.Author.Tests.{not-false}
-use lib.Dec.{eqb, leb}
+use lib.Dec.{leb}
 use Rattle.numbers.specs.Choice.{_gives_else_}
 use Rattle.answers.specs.declared.Answer.{Answer}
 use Rattle.answers.specs.declared.Answer.the-variants.{None, Refused}
 use Rattle.answers.specs.declared.Error.{Error}
-use Rattle.answers.specs.declared.Error.the-variants.{UnknownCmd, RecvNoSpace}
+use Rattle.answers.specs.declared.Error.the-variants.{RecvNoSpace}
 use Rattle.board.specs.declared.Board.{Board}
 use Rattle.endpoint.specs.Kinds.{sendOf, receiveOf}
 use Rattle.table.specs.Table.{Table, place, endpointAt, view}
 use Rattle.slots.specs.Slots.{slotsOf}
-use Rattle.sharing.specs.Sharing.{wordAt, ownOf, waitingOf}
-use Rattle.sharing.specs.declared.Note.{Note}
-use Rattle.command.specs.Checks.{_⇒_, first, _then_, _fails_else_}
+use Rattle.sharing.specs.Sharing.{ownOf, waitingOf}
+use Rattle.command.specs.Checks.{first, _then_, _fails_else_}
 use Rattle.command.specs.Command.{Command, nothing, does, _noting_, _▸_, _▸▸_}
 use Rattle.command.specs.Narrow.{Narrow}
 use Rattle.command.specs.Outcome.{outcome, written, tabled, settled}
@@ -27,7 +26,8 @@ use Rattle.command.proofs.CheckFacts.{passed, before}
 use Rattle.command.proofs.WriteLaws.{by-answer, carried-accepted, carried-refused}
 use Rattle.machine.proofs.Kept as kept
 use Rattle.machine.proofs.Demand1.{answered}
-use Rattle.machine.specs.Machine.{opcodeOf, stepOf, privilegedStep, machineRight, hostChecks, commandOf, privilegedOf, respondOf, left, leftBy}
+use Rattle.machine.proofs.PrivilegedLaws.{one-of-three}
+use Rattle.machine.specs.Machine.{opcodeOf, stepOf, machineRight, hostChecks, commandOf, privilegedOf, respondOf, left, leftBy}
 use Rattle.wiring.specs.Ledger.{Ledger, reply, holds}
 use Rattle.wiring.specs.Run.{Machine, Step, command, privileged, response, IsNarrow, AllNarrow, World, givenTo, callOf, leftOf, answerOf, entry, next, run, start}
 use Rattle.wiring.specs.Wiring.{wiringOf, YesExactly}
@@ -90,14 +90,8 @@ module _ (m : Machine) (tile op ep : ℕ) (a : Registers) where
 
 -- ---- the privileged side writes nothing
 privileged-bare : (m : Machine) (tile op arg0 arg1 : ℕ) → (callOf m (privileged tile op arg0 arg1)) .effect .writes ≡ []
-unfolding privilegedOf privilegedStep _gives_else_ _▸▸_ _▸_ does _noting_
-privileged-bare m tile op arg0 arg1 = go (eqb op 0) (eqb op 4)
-  where
-    go : (x y : Bool)
-        → (x gives does [] nothing arg1 else y gives (does [] nothing (wordAt (m .sharing) tile 0) noting Note.Exchanged (arg0 % 4294967296)) else (true ⇒ UnknownCmd ▸ does [] nothing arg1)) .effect .writes ≡ []
-    go true y = refl
-    go false true = refl
-    go false false = refl
+unfolding privilegedOf _▸▸_ _▸_ does _noting_
+privileged-bare m tile op arg0 arg1 = one-of-three (λ k. k .effect .writes ≡ []) (m .sharing) tile op arg0 arg1 refl refl refl
 
 response-bare : (m : Machine) (tile : ℕ) → (callOf m (response tile)) .effect .writes ≡ []
 unfolding respondOf _▸▸_ does _noting_

@@ -1,6 +1,6 @@
 -- `machine::carry_out` meets its contract. Assumes nothing.
 use borrow.Author.Needs.{needs}
-use mathlib.Core.Path.{_≡_, ap, _∙_}
+use mathlib.Core.Path.{ap, _∙_}
 use Rattle.command.proofs.CheckLaws.{tests}
 use Rattle.command.proofs.CarryLaws.{carry}
 use Rattle.command.specs.Outcome.{carried}

@@ -1,8 +1,7 @@
 -- `machine::dispatch` meets its contract: each opcode is its own command. Assumes nothing.
 use borrow.Author.Needs.{needs}
-use mathlib.Core.Path.{refl}
 use Rattle.command.proofs.CarryLaws.{carry}
-use Rattle.command.specs.Outcome.{carried, outcome}
+use Rattle.command.specs.Outcome.{carried}
 use Rattle.machine.proofs.HostLaws.{is-idle, is-send, is-reply, is-read, is-write, is-fetch, is-ack, is-other}
 use Rattle.machine.proofs.dispatch.Statement.{statement}
 use Rattle.machine.proofs.dispatch.Tie as tie

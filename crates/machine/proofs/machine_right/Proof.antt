@@ -2,7 +2,6 @@
 use borrow.Author.Needs.{needs}
 use borrow.Author.Tests.{not-true, not-false}
 use mathlib.Core.Path.{sym, _∙_}
-use native.Mathlib.Omega.{arith}
 use Rattle.board.proofs.BoardLaws.{right, bounds}
 use Rattle.machine.proofs.HostLaws.{right-not, right-nor, right-so}
 use Rattle.machine.proofs.machine_right.Statement.{statement}

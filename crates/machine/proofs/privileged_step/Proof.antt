@@ -1,7 +1,5 @@
 -- `machine::privileged_step` meets its contract. Assumes nothing.
 use borrow.Author.Needs.{needs}
-use borrow.Author.Tests.{eq-eqb, ne-eqb}
-use Rattle.numbers.proofs.ChoiceLaws.{chosen, declined}
 use Rattle.command.proofs.CheckLaws.{tests}
 use Rattle.command.proofs.CarryLaws.{carry}
 use Rattle.command.specs.Outcome.{carried}

@@ -1,6 +1,5 @@
 -- `machine::step` meets its contract. Assumes nothing.
 use borrow.Author.Needs.{needs}
-use mathlib.Core.Path.{refl}
 use Rattle.board.proofs.BoardLaws.{bounds}
 use Rattle.sharing.proofs.NoteLaws.{inside}
 use Rattle.machine.proofs.LeftLaws.{leaves-noted, note-of, own-as}

@@ -1,6 +1,6 @@
 -- `sharing::arrive` meets its contract: which of the two it does is what `is_foreign` says. Assumes nothing.
 use borrow.Author.Needs.{needs}
-use mathlib.Core.Path.{_≡_, sym, _∙_}
+use mathlib.Core.Path.{sym, _∙_}
 use Rattle.numbers.proofs.ChoiceLaws.{chosen, declined}
 use Rattle.sharing.specs.Sharing.{arrived}
 use Rattle.sharing.proofs.ShareLaws.{good-at}

@@ -3,10 +3,10 @@ use borrow.Author.Needs.{needs}
 use borrow.Author.Count.{below-more}
 use borrow.Author.Tests.{not-true, not-false}
 use Prim.Native.Nat.{ℕ, _-_, _<_, _≤_}
-use mathlib.Core.Bool.{true, false}
+use mathlib.Core.Bool.{true}
 use mathlib.Core.Path.{_≡_, sym, _∙_}
 use native.Mathlib.Omega.{arith}
-use Rattle.sharing.specs.Sharing.{waitingOf, requestAt, requestGood, headGood}
+use Rattle.sharing.specs.Sharing.{requestAt, requestGood}
 use Rattle.sharing.proofs.ShareLaws.{head-bad, head-facts, request-bad, all-good}
 use Rattle.sharing.proofs.record_good.Statement.{statement}
 use Rattle.sharing.proofs.record_good.Tie as tie

@@ -1,6 +1,6 @@
 -- `sharing::respond` meets its contract. Assumes nothing.
 use borrow.Author.Needs.{needs}
-use mathlib.Core.Path.{_≡_, refl, sym, _∙_}
+use mathlib.Core.Path.{refl, sym, _∙_}
 use borrow.Author.Tests.{eq-eqb, ne-eqb}
 use Rattle.numbers.proofs.ChoiceLaws.{chosen, declined}
 use Rattle.sharing.specs.Sharing.{responded}

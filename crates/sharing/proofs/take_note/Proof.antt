@@ -1,6 +1,6 @@
 -- `sharing::take_note` meets its contract. Assumes nothing.
 use borrow.Author.Needs.{needs}
-use mathlib.Core.Path.{_≡_, refl, sym, _∙_}
+use mathlib.Core.Path.{refl}
 use Rattle.sharing.specs.Sharing.{taken, exchanged}
 use Rattle.sharing.specs.Note.{noted}
 use Rattle.sharing.proofs.ShareLaws.{good-at}
