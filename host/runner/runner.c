@@ -6,12 +6,16 @@
  * All that the library is lent stands between guard bytes and beside a copy.
  * After each call the guards are tested, and what differs from the copy is
  * reported, word by word and byte by byte.
+ *
+ * Every call is made on a stack of 2,048 bytes (small_stack.h), and what it used
+ * of it is reported too. `runner --test` only tests that stack.
  */
 #include <inttypes.h>
 #include <stdio.h>
 #include <stdlib.h>
 #include <string.h>
-#include "tcu.h"
+#include "calls.h"
+#include "small_stack.h"
 
 enum { GUARD = 64, GUARD_BYTE = 0xA5, BLOCK = 4096, HEAD = 15 };
 
@@ -22,7 +26,22 @@ enum fault {
 };
 
 enum function {
-    COMMAND, CONFIGURE, INVALIDATE, WIRING, UNPACK, PACK, PRIVILEGED, RESPOND, WAITING
+    COMMAND, CONFIGURE, INVALIDATE, WIRING, UNPACK, PACK, PRIVILEGED, RESPOND, WAITING, FUNCTIONS
+};
+
+static const struct {
+    const char *name;
+    small *make;
+} functions[FUNCTIONS] = {
+    [COMMAND] = {"tcu_command", call_tcu_command},
+    [CONFIGURE] = {"tcu_configure", call_tcu_configure},
+    [INVALIDATE] = {"tcu_invalidate", call_tcu_invalidate},
+    [WIRING] = {"tcu_wiring", call_tcu_wiring},
+    [UNPACK] = {"tcu_unpack", call_tcu_unpack},
+    [PACK] = {"tcu_pack", call_tcu_pack},
+    [PRIVILEGED] = {"tcu_privileged", call_tcu_privileged},
+    [RESPOND] = {"tcu_respond", call_tcu_respond},
+    [WAITING] = {"tcu_waiting", call_tcu_waiting},
 };
 
 /* A slice that is lent: guard, data, guard; and a copy of the data. */
@@ -131,43 +150,32 @@ static uint64_t faults(const struct call *call)
 }
 
 /* Makes one call; arg1, fields and packed are already lent. */
-static uint32_t make(const struct call *c)
+static uint32_t make(const struct call *c, size_t *used)
 {
-    uint64_t *w = (uint64_t *)words.data, *f = (uint64_t *)fields.data;
-    uint64_t *s = (uint64_t *)sharing.data;
     const uint64_t *n = c->numbers;
+    struct arguments given = {
+        .tiles = c->tiles,
+        .memory = c->memory,
+        .words = (uint64_t *)words.data,
+        .words_len = c->words_len,
+        .sharing = (uint64_t *)sharing.data,
+        .sharing_len = c->sharing_len,
+        .mem = mem.data,
+        .mem_len = c->mem_len,
+        .tile = c->tile,
+        .endpoint = c->endpoint,
+        .numbers = {n[0], n[1], n[2], n[3]},
+        .arg1 = (uint64_t *)arg1.data,
+        .list = (uint64_t *)fields.data,
+        .list_len = c->fields_len,
+        .packed = (uint64_t *)packed.data,
+        .packed_len = c->packed_len,
+    };
 
-    switch (c->function) {
-    case COMMAND:
-        return tcu_command(c->tiles, c->memory, w, c->words_len, s, c->sharing_len, mem.data,
-                           c->mem_len, c->tile, n[0], c->endpoint, n[1], n[2], n[3],
-                           (uint64_t *)arg1.data);
-    case CONFIGURE:
-        return tcu_configure(c->tiles, c->memory, w, c->words_len, s, c->sharing_len, mem.data,
-                             c->mem_len, c->tile, c->endpoint, n[0], n[1], n[2]);
-    case INVALIDATE:
-        return tcu_invalidate(c->tiles, c->memory, w, c->words_len, s, c->sharing_len, mem.data,
-                              c->mem_len, c->tile, c->endpoint);
-    case WIRING:
-        return tcu_wiring(c->tiles, c->memory, w, c->words_len, s, c->sharing_len, mem.data,
-                          c->mem_len);
-    case UNPACK:
-        return tcu_unpack(c->memory, n[0], n[1], n[2], f, c->fields_len);
-    case PACK:
-        return tcu_pack(c->memory, f, c->fields_len, (uint64_t *)packed.data, c->packed_len);
-    case PRIVILEGED:
-        return tcu_privileged(c->tiles, c->memory, w, c->words_len, s, c->sharing_len, mem.data,
-                              c->mem_len, c->tile, n[0], n[1], (uint64_t *)arg1.data);
-    case RESPOND:
-        return tcu_respond(c->tiles, c->memory, w, c->words_len, s, c->sharing_len, mem.data,
-                           c->mem_len, c->tile);
-    case WAITING:
-        return tcu_waiting(c->tiles, c->memory, w, c->words_len, s, c->sharing_len, mem.data,
-                           c->mem_len, c->tile, f, c->fields_len);
-    default:
+    if (c->function >= FUNCTIONS)
         fail("no such function");
-        return 0;
-    }
+    return call_on_small_stack(functions[c->function].name, functions[c->function].make, &given,
+                               used);
 }
 
 /* Reports the words of a slice that differ from the copy, or only counts them. */
@@ -238,7 +246,7 @@ static void find_ranges(void)
     }
 }
 
-static void reply(uint32_t answer, const struct call *call)
+static void reply(uint32_t answer, size_t used, const struct call *call)
 {
     uint64_t after;
 
@@ -246,6 +254,7 @@ static void reply(uint32_t answer, const struct call *call)
     put_number(answer);
     put_number(call->function == COMMAND || call->function == PRIVILEGED ? after : 0);
     put_number(faults(call));
+    put_number(used);
     put_number(changed_words(&words, 0));
     put_number(changed_words(&sharing, 0));
     put_number(range_count);
@@ -268,6 +277,7 @@ static const unsigned char *run(const unsigned char *at)
 {
     struct call call;
     uint32_t answer;
+    size_t used;
 
     memcpy(&call, at, sizeof call);
     at += sizeof call;
@@ -280,9 +290,9 @@ static const unsigned char *run(const unsigned char *at)
     lend(&arg1, sizeof(uint64_t));
     memcpy(arg1.data, &call.numbers[4], sizeof(uint64_t));
     copy(&fields);
-    answer = make(&call);
+    answer = make(&call, &used);
     find_ranges();
-    reply(answer, &call);
+    reply(answer, used, &call);
     copy(&words);
     copy(&sharing);
     return at;
@@ -317,11 +327,18 @@ static void batch(void)
         fail("cannot write");
 }
 
-int main(void)
+int main(int argc, char **argv)
 {
     char mark[8];
+    const char *wrong = make_small_stack();
 
     _Static_assert(sizeof(struct call) == HEAD * sizeof(uint64_t), "a call's head");
+    if (wrong != NULL)
+        fail(wrong);
+    if (argc == 2 && strcmp(argv[1], "--test") == 0) {
+        puts("the small stack holds 1,500 bytes; 2,100 and 4,096 meet its guard");
+        return 0;
+    }
     while (fread(mark, sizeof mark, 1, stdin) == 1) {
         if (memcmp(mark, "tcubatch", sizeof mark) != 0)
             fail("no batch");

@@ -35,6 +35,36 @@ pub enum Action {
     Pack { fields: Vec<u64>, words: Vec<u64> },
 }
 
+/// The functions of the library, each at its number on the line to the runner.
+pub const FUNCTIONS: [&str; 9] = [
+    "tcu_command",
+    "tcu_configure",
+    "tcu_invalidate",
+    "tcu_wiring",
+    "tcu_unpack",
+    "tcu_pack",
+    "tcu_privileged",
+    "tcu_respond",
+    "tcu_waiting",
+];
+
+impl Action {
+    /// The number of the function that is called.
+    pub fn function(&self) -> usize {
+        match self {
+            Action::Command(_) => 0,
+            Action::Configure { .. } => 1,
+            Action::Invalidate { .. } => 2,
+            Action::Wiring => 3,
+            Action::Unpack { .. } => 4,
+            Action::Pack { .. } => 5,
+            Action::Privileged { .. } => 6,
+            Action::Respond { .. } => 7,
+            Action::Waiting { .. } => 8,
+        }
+    }
+}
+
 #[derive(Clone, Debug, PartialEq, Eq)]
 pub struct Call {
     pub sizes: Sizes,

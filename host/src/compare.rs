@@ -96,6 +96,7 @@ fn compare(
                 reported_state,
             }));
         }
+        coverage.stack.note(call.action.function(), reply.stack);
         coverage.count(call, &words_before, &sharing_before, &expected);
     }
     Ok(())

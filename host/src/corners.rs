@@ -51,6 +51,8 @@ pub const CORNERS: &[&str] = &[
     "SEND: reply endpoint over a third endpoint in use",
     "SEND: aims at the endpoint it names for replies",
     "SEND: 3 for an arg0 that is right in its low 16 bits",
+    "SEND: the largest message, upwards over itself",
+    "SEND: the largest message, downwards over itself",
     "REPLY: credit given",
     "REPLY: credit makes 62 into 63",
     "REPLY: credit above max_crd",
@@ -95,6 +97,12 @@ pub const CORNERS: &[&str] = &[
     "transfer: upwards over itself",
     "transfer: downwards over itself",
     "transfer: a whole page",
+    "READ: a whole page, upwards over itself",
+    "READ: a whole page, downwards over itself",
+    "READ: a whole page, onto itself",
+    "WRITE: a whole page, upwards over itself",
+    "WRITE: a whole page, downwards over itself",
+    "WRITE: a whole page, onto itself",
     "transfer: up to the end of the region",
     "transfer: 9 where DATA_SIZE + ARG_1 passes 2^64",
     "transfer: 14 for the chip alone",
@@ -543,8 +551,13 @@ fn visit_bytes(seen: &Seen, c: &Command, tile: u64, receiver: &Receive, hit: Hit
         hit("delivery: to the own tile");
         let over_header = from < payload && slot < from + size;
         hit_if(hit, over_header && size != 0, "delivery: payload overlaps its header's place");
-        let over_itself = from < payload + size && payload < from + size && from != payload;
-        hit_if(hit, over_itself, "delivery: payload overlaps its own place");
+        let upwards = from < payload && payload < from + size;
+        let downwards = payload < from && from < payload + size;
+        hit_if(hit, upwards || downwards, "delivery: payload overlaps its own place");
+        // Only msg_sz and slot_size of 11 let so much through.
+        let largest = c.opcode == opcode::SEND && size == 2016;
+        hit_if(hit, largest && upwards, "SEND: the largest message, upwards over itself");
+        hit_if(hit, largest && downwards, "SEND: the largest message, downwards over itself");
     }
 }
 
@@ -632,6 +645,23 @@ fn visit_copied(c: &Command, ep: &Memory, hit: Hit) {
     hit_if(hit, one_tile && upwards, "transfer: upwards over itself");
     hit_if(hit, one_tile && downwards, "transfer: downwards over itself");
     hit_if(hit, c.data_size == PAGE, "transfer: a whole page");
+    if one_tile && c.data_size == PAGE {
+        let [up, down, same] = match c.opcode {
+            opcode::READ => [
+                "READ: a whole page, upwards over itself",
+                "READ: a whole page, downwards over itself",
+                "READ: a whole page, onto itself",
+            ],
+            _ => [
+                "WRITE: a whole page, upwards over itself",
+                "WRITE: a whole page, downwards over itself",
+                "WRITE: a whole page, onto itself",
+            ],
+        };
+        hit_if(hit, upwards, up);
+        hit_if(hit, downwards, down);
+        hit_if(hit, from == to, same);
+    }
     let to_the_end = c.data_size + c.arg1 == ep.size;
     hit_if(hit, to_the_end, "transfer: up to the end of the region");
 }

@@ -4,6 +4,7 @@
 use crate::call::{Action, Call, Outcome};
 use crate::corners::{self, Seen, CORNERS};
 use crate::model::privileged;
+use crate::stack::Stack;
 use std::collections::BTreeMap;
 use std::fmt::Write;
 
@@ -51,6 +52,8 @@ pub struct Coverage {
     calls: u64,
     answers: BTreeMap<(usize, u32), u64>,
     corners: BTreeMap<&'static str, u64>,
+    /// The most stack that a call of each function used.
+    pub stack: Stack,
 }
 
 impl Coverage {

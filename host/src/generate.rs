@@ -4,10 +4,8 @@
 
 use crate::call::{Action, Call, Sizes, State};
 use crate::machines::{self, Place, World};
-use crate::model::{
-    opcode, privileged, Command, Endpoint, Memory, Receive, ENDPOINTS, FIELDS, HEADER,
-};
-use crate::model::{MAX_MEMORY, NO_ENDPOINT, PAGE, WORDS_PER_TILE};
+use crate::model::{find_slot, opcode, privileged, Command, Endpoint, Memory, Receive, Send};
+use crate::model::{ENDPOINTS, FIELDS, HEADER, MAX_MEMORY, NO_ENDPOINT, PAGE, WORDS_PER_TILE};
 use crate::random::Random;
 use crate::sharing::{self, SHARING_PER_TILE};
 use crate::wrong::Wrong;
@@ -300,11 +298,10 @@ impl<'a> Scene<'a> {
             },
             |ep| ep.send().is_some(),
         );
-        let msg_sz = match self.endpoint((tile, endpoint)) {
-            Endpoint::Send(ep) => ep.msg_sz,
-            _ => 6,
-        };
-        let (data_addr, data_size) = self.message(msg_sz);
+        let sender = self.endpoint((tile, endpoint)).send();
+        let over_itself = sender.and_then(|ep| self.message_over_itself(tile, &ep));
+        let (data_addr, data_size) =
+            over_itself.unwrap_or_else(|| self.message(sender.map_or(6, |ep| ep.msg_sz)));
         let arg0 = self.reply_place(tile);
         let arg1 = self.any_number();
         Command { tile, opcode: opcode::SEND, endpoint, arg0, data_addr, data_size, arg1 }
@@ -352,6 +349,23 @@ impl<'a> Scene<'a> {
             _ => self.random.pick(&[u64::MAX - 15, u64::MAX, 1 << 63, 1 << 32]),
         };
         (addr, size)
+    }
+
+    /// Now and then, where an endpoint aims at its own tile: DATA_ADDR and DATA_SIZE
+    /// of a message as large as it can be, most of which lies where it is stored.
+    fn message_over_itself(&mut self, tile: u64, ep: &Send) -> Option<(u64, u64)> {
+        if u64::from(ep.tgt_tile) != tile || !self.random.chance(40) {
+            return None;
+        }
+        let receiver = self.endpoint((tile, ep.tgt_ep.into())).receive()?;
+        let idx = find_slot(receiver.occupied, receiver.wpos, receiver.slots, false)?;
+        let place = receiver.buffer + (idx << receiver.slot_size) + HEADER;
+        let size = (1 << ep.msg_sz.min(receiver.slot_size)).max(HEADER) - HEADER;
+        let step = self.random.pick(&[0, 16, 16, 32, 64, size / 2]);
+        let near = self.random.pick(&[place.saturating_sub(step), place + step]) / 16 * 16;
+        // A message lies within a page.
+        let last = near / PAGE * PAGE + (PAGE - size);
+        Some((near.min(last / 16 * 16), size))
     }
 
     fn reply(&mut self) -> Command {
@@ -438,10 +452,34 @@ impl<'a> Scene<'a> {
             4 => PAGE + 1,
             _ => self.random.pick(&[1, 2, ep.size, u64::MAX, 1 << 63]),
         };
-        let arg1 = self.offset(&ep, data_size);
-        let data_addr = self.local_place(&ep, tile, arg1, data_size);
+        let over_itself = if data_size == PAGE { self.page_over_itself(&ep, tile) } else { None };
+        let (data_addr, arg1) = over_itself.unwrap_or_else(|| {
+            let arg1 = self.offset(&ep, data_size);
+            (self.local_place(&ep, tile, arg1, data_size), arg1)
+        });
         let arg0 = self.any_number();
         Command { tile, opcode, endpoint, arg0, data_addr, data_size, arg1 }
+    }
+
+    /// DATA_ADDR and ARG_1 of a READ or WRITE of a whole page, where the region is on
+    /// the same tile: a page of the tile, and a place of the region less than a page
+    /// away from it, or the page itself.
+    fn page_over_itself(&mut self, ep: &Memory, tile: u64) -> Option<(u64, u64)> {
+        let memory = self.world.memory;
+        let any = self.random.between(1, PAGE - 1);
+        let step = self.random.pick(&[1, 8, 16, 31, PAGE - 1, any]);
+        let last = ep.addr.saturating_add(ep.size).min(memory).checked_sub(PAGE)?;
+        let mut found = Vec::new();
+        for local in (0..memory / PAGE).map(|page| page * PAGE) {
+            let (below, above) = (local.wrapping_sub(step), local + step);
+            let near = [local, below, below, above, above].into_iter();
+            let inside = near.filter(|remote| (ep.addr..=last).contains(remote));
+            found.extend(inside.map(|remote| (local, remote - ep.addr)));
+        }
+        if u64::from(ep.tile) != tile || found.is_empty() {
+            return None;
+        }
+        Some(self.random.pick(&found))
     }
 
     /// The ARG_1 of a READ or WRITE: within the region, at its end, past it, or

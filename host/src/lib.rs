@@ -4,7 +4,8 @@
 //! several activities on a tile, of request T-01 in document 02.
 //! `generate` makes machines and calls, `wire` has them run by a child process
 //! that links the library, `compare` holds the two against each other after
-//! every call, and `coverage` counts which answers and corners were reached.
+//! every call, `coverage` counts which answers and corners were reached, and
+//! `stack` how much stack the calls used.
 
 pub mod call;
 pub mod compare;
@@ -17,5 +18,6 @@ pub mod model;
 pub mod random;
 pub mod report;
 pub mod sharing;
+pub mod stack;
 pub mod wire;
 pub mod wrong;

@@ -4,6 +4,8 @@ use std::io::{self, BufReader};
 use std::process::exit;
 use std::time::Instant;
 use tcu_host::compare::{self, Settings, Verdict};
+use tcu_host::coverage::Coverage;
+use tcu_host::stack::Stack;
 use tcu_host::wrong::{Wrong, WRONG_RULES};
 use tcu_host::{report, wire};
 
@@ -16,10 +18,12 @@ compare --self [options]   hold the model against itself over the same line
   --coverage FILE  write the table of answers and corners to FILE as well
   --wrong RULE     make the model wrong on purpose; a difference must be found
   --wrong each     the same for every rule in turn
+  --stack FILE     the stack that each function can need, as host/stack says it;
+                   a call must not use more
   --under PROGRAM  run RUNNER under PROGRAM, as qemu-x86_64
 compare --rules            list the wrong rules
-Exit status: 0 all the same; 1 a difference, or something was never reached;
-2 bad usage or no runner.";
+Exit status: 0 all the same; 1 a difference, something never reached, or too much
+stack used; 2 bad usage or no runner.";
 
 struct Options {
     program: Vec<String>,
@@ -27,6 +31,7 @@ struct Options {
     calls: u64,
     session: Option<u64>,
     coverage: Option<String>,
+    stack: Option<Stack>,
     wrong: Vec<Wrong>,
 }
 
@@ -79,6 +84,13 @@ fn number(text: &str) -> u64 {
     text.parse().unwrap_or_else(|_| fail(&format!("'{}' is no number", text)))
 }
 
+fn read_stack(path: &str) -> Stack {
+    match std::fs::read_to_string(path) {
+        Ok(text) => Stack::read(&text),
+        Err(error) => fail(&format!("cannot read '{}': {}", path, error)),
+    }
+}
+
 fn wrong_rules(name: &str) -> Vec<Wrong> {
     if name == "each" {
         return WRONG_RULES.iter().map(|rule| rule.0).collect();
@@ -101,6 +113,7 @@ fn parse(arguments: &[String]) -> Options {
         calls: 300_000,
         session: None,
         coverage: None,
+        stack: None,
         wrong: Vec::new(),
     };
     for pair in arguments[1..].chunks(2) {
@@ -113,6 +126,7 @@ fn parse(arguments: &[String]) -> Options {
             "--seed" => options.seed = number(value),
             "--session" => options.session = Some(number(value)),
             "--coverage" => options.coverage = Some(value.clone()),
+            "--stack" => options.stack = Some(read_stack(value)),
             "--wrong" => options.wrong = wrong_rules(value),
             "--under" => program.insert(0, value.clone()),
             other => fail(&format!("there is no option '{}'", other)),
@@ -137,11 +151,15 @@ fn compare_once(options: &Options) -> bool {
     let start = Instant::now();
     match run(options, Wrong::Nothing) {
         Verdict::Same(coverage) => {
-            let table = coverage.table();
+            let mut table = coverage.table();
+            if let Some(limits) = &options.stack {
+                table.push_str(&coverage.stack.table(limits));
+            }
             print!("{}", table);
             println!("no difference; {:.1} s", start.elapsed().as_secs_f64());
             save(options, &table);
-            let gaps = if options.session.is_some() { Vec::new() } else { coverage.gaps() };
+            let gaps =
+                if options.session.is_some() { Vec::new() } else { gaps(options, &coverage) };
             for gap in &gaps {
                 println!("GAP: {}", gap);
             }
@@ -164,6 +182,15 @@ fn compare_once(options: &Options) -> bool {
             false
         }
     }
+}
+
+/// What the calls did not reach, or used too much of.
+fn gaps(options: &Options, coverage: &Coverage) -> Vec<String> {
+    let mut gaps = coverage.gaps();
+    if let Some(limits) = &options.stack {
+        gaps.extend(coverage.stack.gaps(limits));
+    }
+    gaps
 }
 
 fn save(options: &Options, table: &str) {

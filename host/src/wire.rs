@@ -10,9 +10,10 @@
 //! a call is fifteen numbers (see `encode_call`) and the two lists of `tcu_pack`
 //! and `tcu_unpack`, the first also that of `tcu_waiting`; a reply is
 //!
-//!   answer, ARG_1, faults, number of changed words, of changed words of sharing
-//!   records, and of changed ranges, each word as place and value, each range as
-//!   place, length and bytes, and the two lists as they are afterwards.
+//!   answer, ARG_1, faults, bytes of stack used, number of changed words, of
+//!   changed words of sharing records, and of changed ranges, each word as place
+//!   and value, each range as place, length and bytes, and the two lists as they
+//!   are afterwards.
 //!
 //! The runner takes in a whole batch before it answers, so that neither side
 //! waits for the other to empty its pipe.
@@ -46,6 +47,8 @@ pub const FAULTS: [&str; 10] = [
 pub struct Reply {
     pub outcome: Outcome,
     pub faults: u64,
+    /// The bytes of the small stack that were used; 0 where the model plays the runner.
+    pub stack: u64,
     pub words: Vec<(u64, u64)>,
     pub sharing: Vec<(u64, u64)>,
     pub ranges: Vec<(u64, Vec<u8>)>,
@@ -109,28 +112,26 @@ fn lists(call: &Call) -> (&[u64], &[u64]) {
 
 /// Function, five sizes, tile, endpoint, five numbers, two lengths of lists.
 fn encode_call(out: &mut Vec<u8>, call: &Call) {
-    let (function, tile, endpoint, numbers) = match &call.action {
+    let (tile, endpoint, numbers) = match &call.action {
         Action::Command(c) => {
-            (0, c.tile, c.endpoint, [c.opcode, c.arg0, c.data_addr, c.data_size, c.arg1])
+            (c.tile, c.endpoint, [c.opcode, c.arg0, c.data_addr, c.data_size, c.arg1])
         }
         Action::Configure { tile, endpoint, words: [first, second, third] } => {
-            (1, *tile, *endpoint, [*first, *second, *third, 0, 0])
+            (*tile, *endpoint, [*first, *second, *third, 0, 0])
         }
-        Action::Invalidate { tile, endpoint } => (2, *tile, *endpoint, [0; 5]),
-        Action::Wiring => (3, 0, 0, [0; 5]),
+        Action::Invalidate { tile, endpoint } => (*tile, *endpoint, [0; 5]),
         Action::Unpack { words: [first, second, third], .. } => {
-            (4, 0, 0, [*first, *second, *third, 0, 0])
+            (0, 0, [*first, *second, *third, 0, 0])
         }
-        Action::Pack { .. } => (5, 0, 0, [0; 5]),
+        Action::Wiring | Action::Pack { .. } => (0, 0, [0; 5]),
         Action::Privileged { tile, opcode, arg0, arg1 } => {
-            (6, *tile, 0, [*opcode, *arg0, 0, 0, *arg1])
+            (*tile, 0, [*opcode, *arg0, 0, 0, *arg1])
         }
-        Action::Respond { tile } => (7, *tile, 0, [0; 5]),
-        Action::Waiting { tile, .. } => (8, *tile, 0, [0; 5]),
+        Action::Respond { tile } | Action::Waiting { tile, .. } => (*tile, 0, [0; 5]),
     };
     let s = &call.sizes;
     let lengths = [s.words_len, s.sharing_len, s.mem_len];
-    put(out, &[function, s.tiles, s.memory]);
+    put(out, &[call.action.function() as u64, s.tiles, s.memory]);
     put(out, &lengths);
     put(out, &[tile, endpoint]);
     put(out, &numbers);
@@ -180,7 +181,7 @@ fn decode_call(input: &mut impl Read) -> io::Result<Call> {
 
 fn encode_reply(out: &mut Vec<u8>, reply: &Reply) {
     let outcome = &reply.outcome;
-    put(out, &[u64::from(outcome.answer), outcome.arg1, reply.faults]);
+    put(out, &[u64::from(outcome.answer), outcome.arg1, reply.faults, reply.stack]);
     let counts = [reply.words.len(), reply.sharing.len(), reply.ranges.len()];
     put(out, &counts.map(|count| count as u64));
     for (place, word) in reply.words.iter().chain(&reply.sharing) {
@@ -202,6 +203,7 @@ fn decode_reply(input: &mut impl Read, call: &Call) -> io::Result<Reply> {
     let answer = take(input)?;
     let arg1 = take(input)?;
     let faults = take(input)?;
+    let stack = take(input)?;
     let changed_words = take(input)?;
     let changed_sharing = take(input)?;
     let changed_ranges = take(input)?;
@@ -217,7 +219,7 @@ fn decode_reply(input: &mut impl Read, call: &Call) -> io::Result<Reply> {
     let fields = take_list(input, fields.len() as u64)?;
     let packed = take_list(input, packed.len() as u64)?;
     let outcome = Outcome { answer: answer as u32, arg1, fields, packed };
-    Ok(Reply { outcome, faults, words, sharing, ranges })
+    Ok(Reply { outcome, faults, stack, words, sharing, ranges })
 }
 
 // ---------------------------------------------------------------- Our end
@@ -328,5 +330,5 @@ fn difference(before: &State, after: &State, outcome: Outcome) -> Reply {
         let last = (0..after.mem.len()).rev().find(changed).unwrap_or(0);
         ranges.push((first as u64, after.mem[first..=last].to_vec()));
     }
-    Reply { outcome, faults: 0, words, sharing, ranges }
+    Reply { outcome, faults: 0, stack: 0, words, sharing, ranges }
 }

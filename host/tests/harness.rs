@@ -1,10 +1,11 @@
 //! Tests of the comparison itself, with the model on both ends of the line.
 
 use std::process::Command;
-use tcu_host::call::{Action, Sizes, State};
+use tcu_host::call::{Action, Sizes, State, FUNCTIONS};
 use tcu_host::generate::session;
 use tcu_host::model::{acceptable, opcode, privileged};
 use tcu_host::sharing;
+use tcu_host::stack::Stack;
 use tcu_host::wrong::{Wrong, WRONG_RULES};
 
 fn compare(arguments: &[&str]) -> (bool, String) {
@@ -30,6 +31,29 @@ fn every_wrong_rule_is_found() {
     let (passed, text) = compare(&["--self", "--wrong", "each"]);
     assert!(passed, "{}", text);
     assert_eq!(text.matches("found at call").count(), WRONG_RULES.len(), "{}", text);
+}
+
+/// A line of `host/stack` for each function, all with the same figure.
+fn stack_of_each(bytes: u64) -> Stack {
+    let line = |name: &&str| format!("{:5}  call_{} 96 > {} 8\n", bytes, name, name);
+    Stack::read(&FUNCTIONS.iter().map(line).collect::<String>())
+}
+
+#[test]
+fn a_call_may_use_what_its_code_needs_and_no_more() {
+    let limits = stack_of_each(856);
+    assert_eq!(stack_of_each(856).gaps(&limits), Vec::<String>::new());
+    assert_eq!(stack_of_each(857).gaps(&limits).len(), FUNCTIONS.len());
+    let mut used = stack_of_each(100);
+    used.note(3, 857);
+    assert_eq!(used.gaps(&limits), ["tcu_wiring used 857 bytes of stack, its code needs 856"]);
+}
+
+#[test]
+fn a_stack_that_is_not_known_is_a_gap() {
+    let nothing = Stack::default();
+    assert_eq!(nothing.gaps(&stack_of_each(856)).len(), FUNCTIONS.len());
+    assert_eq!(stack_of_each(8).gaps(&nothing).len(), FUNCTIONS.len());
 }
 
 #[test]
