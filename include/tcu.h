@@ -9,14 +9,20 @@
  * What the host lends
  *
  *   tiles    the number of tiles, 1 to 8, numbered from 0
- *   memory   M, the bytes of memory of each tile: a multiple of 4096, from 4096
- *            to 65536
+ *   pages    the page counts: for each tile how many pages of 4096 bytes its
+ *            memory has, 1 to 16, in one byte. Tiles may have different counts.
+ *            Length exactly tiles. It is only read.
  *   words    the endpoint tables: 192 words per tile, three for each of its 64
  *            endpoints, in order. Length exactly 192 * tiles.
  *   sharing  the sharing records: 67 words per tile, which say what activity the
  *            tile runs and what waits for the others. Length exactly 67 * tiles.
- *   mem      the memories one after the other: address a of tile t is
- *            mem[t * M + a]. Length exactly M * tiles, in bytes.
+ *   mem      the memories, each right behind that of the tile before it: address
+ *            a of tile t is mem[4096 * (pages[0] + .. + pages[t - 1]) + a].
+ *            Length exactly 4096 * (the sum of all page counts), in bytes.
+ *
+ * An address counts from the start of its tile's memory. A range in a tile, and
+ * the slots of a receive endpoint there, must lie within that tile's own memory:
+ * they never reach into the next one.
  *
  * A table of zero words is good: every endpoint is INVALID. Records of zero words
  * are good: every tile runs activity 0 and nothing waits. Every function may be
@@ -68,6 +74,10 @@ extern "C" {
 #define TCU_WORDS_PER_ENDPOINT 3
 #define TCU_WORDS_PER_TILE 192
 #define TCU_PAGE 4096
+/* The page counts that a tile can have. */
+#define TCU_MIN_PAGES 1
+#define TCU_MAX_PAGES 16
+/* The same in bytes, for tcu_unpack and tcu_pack. */
 #define TCU_MIN_MEMORY 4096
 #define TCU_MAX_MEMORY 65536
 /* The words of a sharing record, and the requests that can wait in it. */
@@ -105,7 +115,7 @@ enum tcu_answer {
     TCU_NO_CREDITS = 10,         /* no credit left to send with */
     TCU_NO_PERM = 11,            /* the memory endpoint does not permit this */
     TCU_INV_MSG_OFF = 12,        /* arg0 names no slot */
-    TCU_ABORT = 14,              /* a range that lies outside the memory */
+    TCU_ABORT = 14,              /* a range that lies outside its tile's memory */
     TCU_UNKNOWN_CMD = 15,        /* no such opcode */
     TCU_RECV_OUT_OF_BOUNDS = 16, /* the message is too large for a slot */
     TCU_RECV_INV_RPL_EPS = 17,   /* the reply range ends above 64 */
@@ -217,7 +227,7 @@ enum tcu_field {
  * it; where 64 requests wait there, a message for an activity that it does not
  * run is refused with 7.
  */
-uint32_t tcu_command(uint64_t tiles, uint64_t memory,
+uint32_t tcu_command(uint64_t tiles, const uint8_t *pages, size_t pages_len,
                      uint64_t *words, size_t words_len,
                      uint64_t *sharing, size_t sharing_len,
                      uint8_t *mem, size_t mem_len,
@@ -226,10 +236,11 @@ uint32_t tcu_command(uint64_t tiles, uint64_t memory,
                      uint64_t *arg1);
 
 /*
- * Writes an endpoint. The three words come from tcu_pack.
+ * Writes an endpoint. The three words come from tcu_pack, with the memory of this
+ * tile: a receive endpoint that fits a larger tile may be refused here.
  * Answers: 0, 100, 101, 102, 103.
  */
-uint32_t tcu_configure(uint64_t tiles, uint64_t memory,
+uint32_t tcu_configure(uint64_t tiles, const uint8_t *pages, size_t pages_len,
                        uint64_t *words, size_t words_len,
                        const uint64_t *sharing, size_t sharing_len,
                        const uint8_t *mem, size_t mem_len,
@@ -240,7 +251,7 @@ uint32_t tcu_configure(uint64_t tiles, uint64_t memory,
  * Makes an endpoint INVALID.
  * Answers: 0, 100, 101, 102.
  */
-uint32_t tcu_invalidate(uint64_t tiles, uint64_t memory,
+uint32_t tcu_invalidate(uint64_t tiles, const uint8_t *pages, size_t pages_len,
                         uint64_t *words, size_t words_len,
                         const uint64_t *sharing, size_t sharing_len,
                         const uint8_t *mem, size_t mem_len,
@@ -262,7 +273,7 @@ uint32_t tcu_invalidate(uint64_t tiles, uint64_t memory,
  *
  * Answers: 0, 15, 100, 101.
  */
-uint32_t tcu_privileged(uint64_t tiles, uint64_t memory,
+uint32_t tcu_privileged(uint64_t tiles, const uint8_t *pages, size_t pages_len,
                         const uint64_t *words, size_t words_len,
                         uint64_t *sharing, size_t sharing_len,
                         const uint8_t *mem, size_t mem_len,
@@ -274,7 +285,7 @@ uint32_t tcu_privileged(uint64_t tiles, uint64_t memory,
  * none waits, nothing changes and the answer is 0.
  * Answers: 0, 100, 101.
  */
-uint32_t tcu_respond(uint64_t tiles, uint64_t memory,
+uint32_t tcu_respond(uint64_t tiles, const uint8_t *pages, size_t pages_len,
                      const uint64_t *words, size_t words_len,
                      uint64_t *sharing, size_t sharing_len,
                      const uint8_t *mem, size_t mem_len,
@@ -286,7 +297,7 @@ uint32_t tcu_respond(uint64_t tiles, uint64_t memory,
  * TCU_WAITING; this is tested first.
  * Answers: 0, 100, 101.
  */
-uint32_t tcu_waiting(uint64_t tiles, uint64_t memory,
+uint32_t tcu_waiting(uint64_t tiles, const uint8_t *pages, size_t pages_len,
                      const uint64_t *words, size_t words_len,
                      const uint64_t *sharing, size_t sharing_len,
                      const uint8_t *mem, size_t mem_len,
@@ -301,14 +312,15 @@ uint32_t tcu_waiting(uint64_t tiles, uint64_t memory,
  * it than it has slots.
  * Answers: 1 for yes, 0 for no, or 100.
  */
-uint32_t tcu_wiring(uint64_t tiles, uint64_t memory,
+uint32_t tcu_wiring(uint64_t tiles, const uint8_t *pages, size_t pages_len,
                     const uint64_t *words, size_t words_len,
                     const uint64_t *sharing, size_t sharing_len,
                     const uint8_t *mem, size_t mem_len);
 
 /*
- * Turns the three words of an endpoint into its fields. fields_len is exactly
- * TCU_FIELDS.
+ * Turns the three words of an endpoint into its fields. memory is the bytes of
+ * memory of the tile that has the endpoint, TCU_PAGE * its page count: a multiple
+ * of 4096, from 4096 to 65536. fields_len is exactly TCU_FIELDS.
  * Answers: 0; 100 for a memory or a length that is not allowed; 103 for words
  * that are not acceptable.
  */
@@ -317,8 +329,9 @@ uint32_t tcu_unpack(uint64_t memory,
                     uint64_t *fields, size_t fields_len);
 
 /*
- * Turns fields into the three words of an endpoint. fields_len is exactly
- * TCU_FIELDS, words_len exactly TCU_WORDS_PER_ENDPOINT.
+ * Turns fields into the three words of an endpoint. memory is that of the tile
+ * that will have it, as for tcu_unpack. fields_len is exactly TCU_FIELDS,
+ * words_len exactly TCU_WORDS_PER_ENDPOINT.
  * Answers: 0; 100 for a memory or a length that is not allowed; 103 for an
  * unknown kind, a field too large for its bits, an unused number that is not
  * zero, or a receive endpoint that breaks one of these rules: at most 2^5 slots

@@ -10,14 +10,17 @@
 
 /* What is passed to any of the functions; each takes what it needs. */
 struct arguments {
-    uint64_t tiles, memory;
+    uint64_t tiles;
+    const uint8_t *pages;
+    size_t pages_len;
     uint64_t *words;
     size_t words_len;
     uint64_t *sharing;
     size_t sharing_len;
     uint8_t *mem;
     size_t mem_len;
-    uint64_t tile, endpoint, numbers[4];
+    uint64_t tile, endpoint;
+    uint64_t numbers[4]; /* the last one is also the memory of tcu_unpack and tcu_pack */
     uint64_t *arg1;
     uint64_t *list; /* the fields, or the list of tcu_waiting */
     size_t list_len;

@@ -22,7 +22,7 @@ enum { GUARD = 64, GUARD_BYTE = 0xA5, BLOCK = 4096, HEAD = 15 };
 /* The bits of a reply's faults, in the order of FAULTS in wire.rs. */
 enum fault {
     BESIDE_WORDS, BESIDE_SHARING, BESIDE_MEM, BESIDE_FIELDS, BESIDE_PACKED, BESIDE_ARG1,
-    INTO_SHARING, INTO_WORDS, INTO_MEM, INTO_FIELDS
+    INTO_SHARING, INTO_WORDS, INTO_MEM, INTO_FIELDS, BESIDE_PAGES, INTO_PAGES
 };
 
 enum function {
@@ -53,7 +53,7 @@ struct lent {
 };
 
 /* The fields are also the list of tcu_waiting. */
-static struct lent words, sharing, mem, fields, packed, arg1;
+static struct lent pages, words, sharing, mem, fields, packed, arg1;
 
 /* The ranges of the memory that the last call has changed. */
 static struct range {
@@ -61,9 +61,9 @@ static struct range {
 } *ranges;
 static size_t range_count, range_room;
 
-/* A call as it comes in; the fields and the packed words follow it. */
+/* A call as it comes in; the page counts, the fields and the packed words follow it. */
 struct call {
-    uint64_t function, tiles, memory, words_len, sharing_len, mem_len;
+    uint64_t function, tiles, pages_len, words_len, sharing_len, mem_len;
     uint64_t tile, endpoint, numbers[5];
     uint64_t fields_len, packed_len;
 };
@@ -131,7 +131,8 @@ static uint64_t faults(const struct call *call)
     uint64_t found = guards_broken(&words, BESIDE_WORDS) |
                      guards_broken(&sharing, BESIDE_SHARING) |
                      guards_broken(&mem, BESIDE_MEM) | guards_broken(&fields, BESIDE_FIELDS) |
-                     guards_broken(&packed, BESIDE_PACKED) | guards_broken(&arg1, BESIDE_ARG1);
+                     guards_broken(&packed, BESIDE_PACKED) | guards_broken(&arg1, BESIDE_ARG1) |
+                     guards_broken(&pages, BESIDE_PAGES);
     int writes_words = call->function == COMMAND || call->function == CONFIGURE ||
                        call->function == INVALIDATE;
     int writes_sharing = call->function == COMMAND || call->function == PRIVILEGED ||
@@ -146,16 +147,19 @@ static uint64_t faults(const struct call *call)
         found |= UINT64_C(1) << INTO_MEM;
     if (!writes_fields && changed(&fields))
         found |= UINT64_C(1) << INTO_FIELDS;
+    if (changed(&pages))
+        found |= UINT64_C(1) << INTO_PAGES;
     return found;
 }
 
-/* Makes one call; arg1, fields and packed are already lent. */
+/* Makes one call; pages, arg1, fields and packed are already lent. */
 static uint32_t make(const struct call *c, size_t *used)
 {
     const uint64_t *n = c->numbers;
     struct arguments given = {
         .tiles = c->tiles,
-        .memory = c->memory,
+        .pages = pages.data,
+        .pages_len = c->pages_len,
         .words = (uint64_t *)words.data,
         .words_len = c->words_len,
         .sharing = (uint64_t *)sharing.data,
@@ -272,6 +276,15 @@ static void reply(uint32_t answer, size_t used, const struct call *call)
     put(packed.data, packed.bytes);
 }
 
+/* Lends the bytes that stand in the batch; gives back where the next ones stand. */
+static const unsigned char *lend_from(struct lent *slice, size_t bytes, const unsigned char *at)
+{
+    lend(slice, bytes);
+    memcpy(slice->data, at, bytes);
+    copy(slice);
+    return at + bytes;
+}
+
 /* Runs one call from the batch; gives back where the next one starts. */
 static const unsigned char *run(const unsigned char *at)
 {
@@ -281,15 +294,11 @@ static const unsigned char *run(const unsigned char *at)
 
     memcpy(&call, at, sizeof call);
     at += sizeof call;
-    lend(&fields, call.fields_len * 8);
-    memcpy(fields.data, at, fields.bytes);
-    at += fields.bytes;
-    lend(&packed, call.packed_len * 8);
-    memcpy(packed.data, at, packed.bytes);
-    at += packed.bytes;
+    at = lend_from(&pages, call.pages_len, at);
+    at = lend_from(&fields, call.fields_len * 8, at);
+    at = lend_from(&packed, call.packed_len * 8, at);
     lend(&arg1, sizeof(uint64_t));
     memcpy(arg1.data, &call.numbers[4], sizeof(uint64_t));
-    copy(&fields);
     answer = make(&call, &used);
     find_ranges();
     reply(answer, used, &call);

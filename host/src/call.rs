@@ -1,7 +1,8 @@
 //! Calls of the library as data: what the host lends, the numbers it passes, and
 //! what comes back. A call can be run by the model or sent to a runner.
 
-use crate::model::{self, Command, Machine};
+use crate::model::{self, Command, Machine, PAGE, WORDS_PER_TILE};
+use crate::sharing::SHARING_PER_TILE;
 use crate::wrong::Wrong;
 
 /// What the host lends. A call may be given less of it than there is.
@@ -12,16 +13,50 @@ pub struct State {
     pub mem: Vec<u8>,
 }
 
-/// The sizes as a call states them: two numbers and three lengths of slices.
-#[derive(Clone, Copy, Debug, PartialEq, Eq)]
+/// The sizes as a call states them: the number of tiles, the list of page counts,
+/// which is lent with the call, and the lengths of the other slices.
+#[derive(Clone, Debug, PartialEq, Eq)]
 pub struct Sizes {
     pub tiles: u64,
-    pub memory: u64,
+    pub pages: Vec<u8>,
     pub words_len: u64,
     pub sharing_len: u64,
     pub mem_len: u64,
 }
 
+impl Sizes {
+    /// The sizes that belong to a list of page counts.
+    pub fn of(pages: &[u8]) -> Sizes {
+        let tiles = pages.len() as u64;
+        Sizes {
+            tiles,
+            pages: pages.to_vec(),
+            words_len: WORDS_PER_TILE * tiles,
+            sharing_len: SHARING_PER_TILE * tiles,
+            mem_len: bytes_of(pages),
+        }
+    }
+
+    /// The bytes of memory of a tile; none where the list has no count for it.
+    pub fn size_of(&self, tile: u64) -> u64 {
+        let count = usize::try_from(tile).ok().and_then(|tile| self.pages.get(tile));
+        count.map_or(0, |count| bytes_of(&[*count]))
+    }
+
+    /// Where the memory of a tile starts in the lent one.
+    pub fn start_of(&self, tile: u64) -> u64 {
+        let before = self.pages.len().min(tile as usize);
+        bytes_of(&self.pages[..before])
+    }
+}
+
+/// The bytes of memory that so many pages have together.
+pub fn bytes_of(pages: &[u8]) -> u64 {
+    pages.iter().map(|count| u64::from(*count) * PAGE).sum()
+}
+
+/// What is called, with its own numbers and lists. The memory of `Unpack` and `Pack` is
+/// that of the tile that has the endpoint.
 #[derive(Clone, Debug, PartialEq, Eq)]
 pub enum Action {
     Command(Command),
@@ -31,8 +66,8 @@ pub enum Action {
     Respond { tile: u64 },
     Waiting { tile: u64, list: Vec<u64> },
     Wiring,
-    Unpack { words: [u64; 3], fields: Vec<u64> },
-    Pack { fields: Vec<u64>, words: Vec<u64> },
+    Unpack { memory: u64, words: [u64; 3], fields: Vec<u64> },
+    Pack { memory: u64, fields: Vec<u64>, words: Vec<u64> },
 }
 
 /// The functions of the library, each at its number on the line to the runner.
@@ -84,10 +119,10 @@ pub struct Outcome {
 
 impl State {
     /// The part of the state that a call with these sizes is lent.
-    pub fn machine(&mut self, sizes: &Sizes, wrong: Wrong) -> Machine<'_> {
+    pub fn machine<'a>(&'a mut self, sizes: &'a Sizes, wrong: Wrong) -> Machine<'a> {
         Machine {
             tiles: sizes.tiles,
-            memory: sizes.memory,
+            pages: &sizes.pages,
             words: &mut self.words[..sizes.words_len as usize],
             sharing: &mut self.sharing[..sizes.sharing_len as usize],
             mem: &mut self.mem[..sizes.mem_len as usize],
@@ -99,16 +134,15 @@ impl State {
 impl Call {
     /// Runs the call on the model.
     pub fn run(&self, state: &mut State, wrong: Wrong) -> Outcome {
-        let memory = self.sizes.memory;
         match &self.action {
-            Action::Unpack { words, fields } => {
+            Action::Unpack { memory, words, fields } => {
                 let mut fields = fields.clone();
-                let answer = model::unpack(memory, *words, &mut fields) as u32;
+                let answer = model::unpack(*memory, *words, &mut fields) as u32;
                 Outcome { answer, fields, ..Outcome::default() }
             }
-            Action::Pack { fields, words } => {
+            Action::Pack { memory, fields, words } => {
                 let mut packed = words.clone();
-                let answer = model::pack(memory, fields, &mut packed) as u32;
+                let answer = model::pack(*memory, fields, &mut packed) as u32;
                 Outcome { answer, fields: fields.clone(), packed, ..Outcome::default() }
             }
             on_machine => run_on_machine(on_machine, state.machine(&self.sizes, wrong)),

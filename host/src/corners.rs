@@ -2,13 +2,14 @@
 //! where a wrong machine could give the right number for another reason, or the
 //! right number and a wrong end state.
 
-use crate::call::{Action, Call, Outcome, Sizes};
+use crate::call::{bytes_of, Action, Call, Outcome, Sizes};
 use crate::model::WORDS_PER_TILE;
-use crate::model::{self, find_slot, opcode, privileged, Command, Endpoint, Memory, Receive, Send};
+use crate::model::{find_slot, opcode, privileged, Command, Endpoint, Memory, Receive, Send};
 use crate::model::{
     ENDPOINTS, FIELDS, HEADER, MAX_MEMORY, MAX_TILES, NO_ENDPOINT, PAGE, UNLIMITED,
 };
 use crate::sharing::SHARING_PER_TILE;
+use crate::unequal;
 
 /// Every corner. `visit` names no other.
 pub const CORNERS: &[&str] = &[
@@ -25,6 +26,9 @@ pub const CORNERS: &[&str] = &[
     "delivery: payload overlaps its header's place",
     "delivery: payload overlaps its own place",
     "delivery: a full slot ends with the memory",
+    "delivery: a full slot ends with an unequal memory",
+    "delivery: the tile does not start at t times the own size",
+    "delivery: the tile does not start at t times its size",
     "delivery: counted",
     "delivery: the count goes from 65535 to 0",
     "delivery: counted while the queue is full",
@@ -76,6 +80,10 @@ pub const CORNERS: &[&str] = &[
     "message: 9 where DATA_SIZE + 32 passes 2^64",
     "message: 9 where msg_sz is below 5",
     "message: DATA_SIZE at the limit of msg_sz",
+    "message: the payload ends with an unequal memory",
+    "message: the payload fits the own tile alone",
+    "message: 14, the payload ends one past an unequal memory",
+    "message: 14, the payload fits the target alone",
     "FETCH: nothing unread",
     "FETCH: the search goes round",
     "FETCH: rpos is 2^slots",
@@ -110,6 +118,22 @@ pub const CORNERS: &[&str] = &[
     "transfer: 14 for the remote range alone",
     "transfer: 14 where the remote sum passes 2^64",
     "transfer: 14 for the local range alone",
+    "transfer: the tile does not start at t times the own size",
+    "transfer: the tile does not start at t times its size",
+    "READ: the remote range ends with an unequal memory",
+    "READ: the remote range fits the target alone",
+    "READ: the local range fits the own tile alone",
+    "READ: 14, the remote range ends one past an unequal memory",
+    "READ: 14, the remote range fits the own tile alone",
+    "READ: 14, the local range fits the target alone",
+    "WRITE: the remote range ends with an unequal memory",
+    "WRITE: the remote range fits the target alone",
+    "WRITE: the local range fits the own tile alone",
+    "WRITE: 14, the remote range ends one past an unequal memory",
+    "WRITE: 14, the remote range fits the own tile alone",
+    "WRITE: 14, the local range fits the target alone",
+    "configure: words that another tile refuses",
+    "configure: 103 for words that another tile takes",
     "endpoint number right in its low bits only",
     "opcode right in its low bits only",
     "XCHG_ACT: another activity",
@@ -129,18 +153,31 @@ pub const CORNERS: &[&str] = &[
     "100: tiles 0",
     "100: tiles above 8, other sizes to match",
     "100: 192 * tiles wraps to the right length",
-    "100: M 0, other sizes to match",
-    "100: M no multiple of 4096",
-    "100: M above 65536, other sizes to match",
-    "100: M * tiles wraps to the right length",
+    "100: tiles above 8, too few page counts",
+    "100: tiles above 8, too many page counts",
+    "100: a page count of 0, other sizes to match",
+    "100: a page count of 17, other sizes to match",
+    "100: a page count of 255",
+    "100: only the first page count is bad",
+    "100: only the last page count is bad",
+    "100: too few page counts, mem to match",
+    "100: too few page counts, mem for more tiles",
+    "100: too many page counts, mem to match",
+    "100: too many page counts, mem for the tiles",
     "100: words too short",
     "100: words too long",
     "100: sharing too short",
     "100: sharing too long",
     "100: mem too short",
     "100: mem too long",
+    "100: mem a byte too short",
+    "100: mem a byte too long",
+    "100: mem a page too short",
+    "100: mem a page too long",
+    "100: mem for tiles of one size, and they are not",
     "100: only the last endpoint of the last tile is bad",
     "100: only the first endpoint is bad",
+    "100: only an endpoint that another tile could have is bad",
     "record: CUR_ACT above 32 bits",
     "record: the oldest at 64 or above",
     "record: 65 wait",
@@ -176,7 +213,13 @@ pub const CORNERS: &[&str] = &[
     "pack: a receive endpoint breaks a rule",
     "pack: fields of another length",
     "pack: words of another length",
+    "pack: M 0",
+    "pack: M no multiple of 4096",
+    "pack: M above 65536",
     "unpack: fields of another length",
+    "unpack: M 0",
+    "unpack: M no multiple of 4096",
+    "unpack: M above 65536",
     "wiring: a reply endpoint",
     "wiring: an occupied bit",
     "wiring: a range past 64",
@@ -195,7 +238,8 @@ pub struct Seen<'a> {
     pub outcome: &'a Outcome,
 }
 
-type Hit<'a> = &'a mut dyn FnMut(&'static str);
+/// What is told each corner that was reached.
+pub(crate) type Hit<'a> = &'a mut dyn FnMut(&'static str);
 
 /// Names each corner that the call has reached.
 pub fn visit(seen: &Seen, hit: Hit) {
@@ -203,11 +247,17 @@ pub fn visit(seen: &Seen, hit: Hit) {
         visit_good_records(seen, hit);
     }
     match &seen.call.action {
-        Action::Unpack { words, fields } => {
+        Action::Unpack { memory, words, fields } => {
+            let names = ["unpack: M 0", "unpack: M no multiple of 4096", "unpack: M above 65536"];
             hit_if(hit, fields.len() != FIELDS, "unpack: fields of another length");
-            visit_refused_words(seen, words, hit);
+            visit_memory(*memory, names, fields.len() == FIELDS, hit);
+            visit_refused_words(seen, words, *memory, hit);
         }
-        Action::Pack { fields, words } => visit_pack(seen, fields, words, hit),
+        Action::Pack { memory, fields, words } => {
+            let names = ["pack: M 0", "pack: M no multiple of 4096", "pack: M above 65536"];
+            visit_memory(*memory, names, fields.len() == FIELDS && words.len() == 3, hit);
+            visit_pack(seen, fields, words, hit);
+        }
         Action::Waiting { tile, list } if list.len() != 3 => {
             hit("waiting: list of another length");
             let no_tile = *tile >= seen.sizes().tiles;
@@ -221,20 +271,23 @@ pub fn visit(seen: &Seen, hit: Hit) {
         }
         Action::Respond { tile } => visit_respond(&seen.record(*tile), hit),
         Action::Waiting { tile, .. } => visit_waiting(&seen.record(*tile), hit),
-        Action::Configure { words, .. } => visit_refused_words(seen, words, hit),
+        Action::Configure { tile, words, .. } => {
+            visit_refused_words(seen, words, seen.sizes().size_of(*tile), hit);
+            unequal::visit_configured(seen, *tile, words, hit);
+        }
         Action::Wiring if seen.outcome.answer == 0 => visit_unsound(seen, hit),
         _ => {}
     }
 }
 
-fn hit_if(hit: Hit, reached: bool, corner: &'static str) {
+pub(crate) fn hit_if(hit: Hit, reached: bool, corner: &'static str) {
     if reached {
         hit(corner);
     }
 }
 
 impl Seen<'_> {
-    fn sizes(&self) -> &Sizes {
+    pub(crate) fn sizes(&self) -> &Sizes {
         &self.call.sizes
     }
 
@@ -261,7 +314,7 @@ impl Seen<'_> {
         }
     }
 
-    fn answer(&self) -> u32 {
+    pub(crate) fn answer(&self) -> u32 {
         self.outcome.answer
     }
 }
@@ -513,6 +566,7 @@ fn visit_message(seen: &Seen, c: &Command, ep: &Send, hit: Hit) {
     if let Endpoint::Receive(receiver) = target {
         visit_arrival(seen, c, ep, &receiver, hit);
     }
+    unequal::visit_payload(seen, c, ep, hit);
     if answer != 0 {
         return;
     }
@@ -536,17 +590,19 @@ fn visit_search(receiver: &Receive, hit: Hit) {
 }
 
 fn visit_bytes(seen: &Seen, c: &Command, tile: u64, receiver: &Receive, hit: Hit) {
-    let memory = seen.sizes().memory;
+    let (own, target) = (seen.sizes().size_of(c.tile), seen.sizes().size_of(tile));
     let idx = find_slot(receiver.occupied, receiver.wpos, receiver.slots, false).unwrap_or(0);
     let slot = receiver.buffer + (idx << receiver.slot_size);
     let payload = slot + HEADER;
     let (from, size) = (c.data_addr, c.data_size);
     hit_if(hit, size == 2016, "delivery: largest message, 2016 bytes");
     hit_if(hit, size == 0, "delivery: empty payload");
-    hit_if(hit, size == 0 && from == memory, "delivery: empty payload at address M");
-    hit_if(hit, size != 0 && from + size == memory, "delivery: payload ends with the memory");
-    let ends_memory = payload + size == memory && HEADER + size == receiver.slot_bytes();
+    hit_if(hit, size == 0 && from == own, "delivery: empty payload at address M");
+    hit_if(hit, size != 0 && from + size == own, "delivery: payload ends with the memory");
+    let ends_memory = payload + size == target && HEADER + size == receiver.slot_bytes();
     hit_if(hit, ends_memory, "delivery: a full slot ends with the memory");
+    let unequal = ends_memory && own != target;
+    hit_if(hit, unequal, "delivery: a full slot ends with an unequal memory");
     if tile == c.tile {
         hit("delivery: to the own tile");
         let over_header = from < payload && slot < from + size;
@@ -625,11 +681,17 @@ fn visit_transfer(seen: &Seen, c: &Command, ep: &Memory, hit: Hit) {
     match seen.answer() {
         0 if c.data_size == 0 => {
             hit_if(hit, c.arg1 > ep.size, "transfer: size 0 beyond the region");
-            let outside = c.data_addr > seen.sizes().memory;
+            let outside = c.data_addr > seen.sizes().size_of(c.tile);
             hit_if(hit, outside, "transfer: size 0 outside the memory");
         }
-        0 => visit_copied(c, ep, hit),
-        14 => visit_aborted(seen, c, ep, hit),
+        0 => {
+            visit_copied(c, ep, hit);
+            unequal::visit_ranges(seen, c, ep, hit);
+        }
+        14 => {
+            visit_aborted(seen, c, ep, hit);
+            unequal::visit_ranges(seen, c, ep, hit);
+        }
         _ => {}
     }
 }
@@ -667,17 +729,20 @@ fn visit_copied(c: &Command, ep: &Memory, hit: Hit) {
 }
 
 fn visit_aborted(seen: &Seen, c: &Command, ep: &Memory, hit: Hit) {
-    let memory = u128::from(seen.sizes().memory);
+    let s = seen.sizes();
+    let own = u128::from(s.size_of(c.tile));
+    let target = u128::from(s.size_of(ep.tile.into()));
+    let exists = u64::from(ep.tile) < s.tiles;
     let size = u128::from(c.data_size);
     let remote_end = u128::from(ep.addr) + u128::from(c.arg1) + size;
     let reasons = [
         (ep.chip != 0, "transfer: 14 for the chip alone"),
-        (u64::from(ep.tile) >= seen.sizes().tiles, "transfer: 14 for the tile alone"),
-        (remote_end > memory, "transfer: 14 for the remote range alone"),
-        (u128::from(c.data_addr) + size > memory, "transfer: 14 for the local range alone"),
+        (!exists, "transfer: 14 for the tile alone"),
+        (exists && remote_end > target, "transfer: 14 for the remote range alone"),
+        (u128::from(c.data_addr) + size > own, "transfer: 14 for the local range alone"),
     ];
     hit_single(&reasons, hit);
-    let passes = remote_end >> 64 != 0 && remote_end - (1 << 64) <= memory;
+    let passes = exists && remote_end >> 64 != 0 && remote_end - (1 << 64) <= target;
     hit_if(hit, passes, "transfer: 14 where the remote sum passes 2^64");
 }
 
@@ -694,25 +759,28 @@ fn hit_single(reasons: &[(bool, &'static str)], hit: Hit) {
 fn visit_bad_machine(seen: &Seen, hit: Hit) {
     let s = seen.sizes();
     let words = u128::from(s.tiles) * 192;
-    let bytes = u128::from(s.tiles) * u128::from(s.memory);
     let sharing_matches = u128::from(s.sharing_len) == u128::from(s.tiles) * 67;
-    let words_match = u128::from(s.words_len) == words;
-    let match_all = words_match && sharing_matches && u128::from(s.mem_len) == bytes;
+    let tables_match = u128::from(s.words_len) == words && sharing_matches;
+    let list_matches = s.pages.len() as u64 == s.tiles;
     let tiles_hold = (1..=MAX_TILES).contains(&s.tiles);
-    let memory_holds = model::memory_allowed(s.memory);
+    let counts_hold = s.pages.iter().all(|count| (1..=16).contains(count));
+    let match_all = tables_match && list_matches && s.mem_len == bytes_of(&s.pages);
     let wrapped_words = words >> 64 != 0 && words as u64 == s.words_len;
-    let wrapped_bytes = bytes >> 64 != 0 && bytes as u64 == s.mem_len;
     hit_if(hit, s.tiles == 0, "100: tiles 0");
-    hit_if(hit, match_all && s.tiles > MAX_TILES, "100: tiles above 8, other sizes to match");
+    let only_tiles = match_all && counts_hold && s.tiles > MAX_TILES;
+    hit_if(hit, only_tiles, "100: tiles above 8, other sizes to match");
     hit_if(hit, wrapped_words, "100: 192 * tiles wraps to the right length");
-    hit_if(hit, match_all && tiles_hold && s.memory == 0, "100: M 0, other sizes to match");
-    let no_multiple = match_all && tiles_hold && s.memory % PAGE != 0;
-    hit_if(hit, no_multiple, "100: M no multiple of 4096");
-    let too_large = match_all && tiles_hold && s.memory > MAX_MEMORY;
-    hit_if(hit, too_large, "100: M above 65536, other sizes to match");
-    hit_if(hit, tiles_hold && wrapped_bytes, "100: M * tiles wraps to the right length");
-    if tiles_hold && memory_holds {
+    if tables_match && tiles_hold && list_matches {
+        unequal::visit_counts(s, contents_hold(seen), hit);
+    }
+    if tables_match && counts_hold {
+        unequal::visit_list(s, hit);
+    }
+    if tiles_hold && counts_hold && list_matches {
         visit_lengths(s, hit);
+        if tables_match {
+            unequal::visit_mem_length(s, hit);
+        }
         if match_all {
             visit_bad_table(seen, hit);
             visit_bad_records(seen, hit);
@@ -721,7 +789,7 @@ fn visit_bad_machine(seen: &Seen, hit: Hit) {
 }
 
 fn visit_lengths(s: &Sizes, hit: Hit) {
-    let (words, mem) = (WORDS_PER_TILE * s.tiles, s.memory * s.tiles);
+    let (words, mem) = (WORDS_PER_TILE * s.tiles, bytes_of(&s.pages));
     let sharing = SHARING_PER_TILE * s.tiles;
     hit_single(
         &[
@@ -736,27 +804,42 @@ fn visit_lengths(s: &Sizes, hit: Hit) {
     );
 }
 
-fn visit_bad_table(seen: &Seen, hit: Hit) {
+/// The places of the endpoints that are not acceptable on their tile.
+fn bad_endpoints(seen: &Seen) -> Vec<u64> {
     let s = seen.sizes();
-    let table = seen.words[..s.words_len as usize].chunks_exact(3);
-    let faulty = |words: &&[u64]| !word_faults(words, s.memory).is_empty();
-    let bad: Vec<usize> =
-        table.enumerate().filter(|(_, words)| faulty(words)).map(|(place, _)| place).collect();
-    let last = (s.tiles * ENDPOINTS - 1) as usize;
+    let table = (0..).zip(seen.words[..s.words_len as usize].chunks_exact(3));
+    let bad = table.filter(|(place, words)| {
+        let size = s.size_of(place / ENDPOINTS);
+        !word_faults(words, size).is_empty()
+    });
+    bad.map(|(place, _)| place).collect()
+}
+
+/// Whether the table and the records are good, for the sizes that the call states.
+fn contents_hold(seen: &Seen) -> bool {
+    let mut records = seen.sharing[..seen.sizes().sharing_len as usize].chunks_exact(67);
+    bad_endpoints(seen).is_empty() && records.all(|record| record_faults(record).is_empty())
+}
+
+fn visit_bad_table(seen: &Seen, hit: Hit) {
+    let bad = bad_endpoints(seen);
+    let last = seen.sizes().tiles * ENDPOINTS - 1;
     hit_if(hit, bad == [last], "100: only the last endpoint of the last tile is bad");
     hit_if(hit, bad == [0], "100: only the first endpoint is bad");
+    if let [place] = bad[..] {
+        unequal::visit_bad_endpoint(seen, place, hit);
+    }
 }
 
 /// Records that are refused for one fault in one of them, where the table is good.
 fn visit_bad_records(seen: &Seen, hit: Hit) {
     let s = seen.sizes();
-    let mut table = seen.words[..s.words_len as usize].chunks_exact(3);
     let records = seen.sharing[..s.sharing_len as usize].chunks_exact(67).enumerate();
     let bad: Vec<(usize, Vec<&'static str>)> = records
         .map(|(tile, record)| (tile, record_faults(record)))
         .filter(|(_, faults)| !faults.is_empty())
         .collect();
-    let good_table = table.all(|words| word_faults(words, s.memory).is_empty());
+    let good_table = bad_endpoints(seen).is_empty();
     match &bad[..] {
         [] if good_table => hit("100 where sizes, table and records are good"),
         [(tile, faults)] if good_table => {
@@ -861,12 +944,21 @@ fn receive_faults(words: &[u64], memory: u64) -> Vec<(bool, &'static str)> {
 
 /// Words that are refused for one fault; also holds the model against the
 /// second test of the words above.
-fn visit_refused_words(seen: &Seen, words: &[u64; 3], hit: Hit) {
-    let faults = word_faults(words, seen.sizes().memory);
+fn visit_refused_words(seen: &Seen, words: &[u64; 3], memory: u64, hit: Hit) {
+    let faults = word_faults(words, memory);
     match (seen.answer(), &faults[..]) {
         (103, [fault]) => hit(fault),
         (103, []) | (0, [_, ..]) => hit("the two tests of the words do not agree"),
         _ => {}
+    }
+}
+
+/// The memory of `tcu_pack` and `tcu_unpack` that is not allowed, where it is the only
+/// fault.
+fn visit_memory(memory: u64, names: [&'static str; 3], lists_match: bool, hit: Hit) {
+    let reasons = [memory == 0, memory % PAGE != 0, memory > MAX_MEMORY];
+    if lists_match {
+        hit_single(&[0, 1, 2].map(|at| (reasons[at], names[at])), hit);
     }
 }
 

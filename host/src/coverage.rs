@@ -104,7 +104,7 @@ impl Coverage {
         text.push_str("corner, count\n");
         for corner in CORNERS {
             let count = self.corners.get(corner).copied().unwrap_or(0);
-            let _ = writeln!(text, "  {:<58}{:>7}", corner, count);
+            let _ = writeln!(text, "  {:<60}{:>7}", corner, count);
         }
         text
     }

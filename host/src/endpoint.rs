@@ -281,7 +281,7 @@ impl Memory {
 /// The bits of a memory endpoint's first word that have a name.
 const MEMORY_NAMED: u64 = 0x7 | 0xFFFF << 3 | 0x3 << 19 | 0xFF << 23 | 0x3F << 31;
 
-/// Whether three words are acceptable as an endpoint.
+/// Whether three words are acceptable as an endpoint of a tile with so much memory.
 pub fn acceptable(words: &[u64], memory: u64) -> bool {
     match words[0] & 7 {
         0 => words[0] | words[1] | words[2] == 0,
@@ -361,7 +361,7 @@ impl Endpoint {
     }
 }
 
-/// Words into fields.
+/// Words into fields; `memory` is that of the tile that has the endpoint.
 pub fn unpack(memory: u64, words: [u64; 3], fields: &mut [u64]) -> Answer {
     if !memory_allowed(memory) || fields.len() != FIELDS {
         return Answer::BadMachine;
@@ -373,7 +373,7 @@ pub fn unpack(memory: u64, words: [u64; 3], fields: &mut [u64]) -> Answer {
     Answer::None
 }
 
-/// Fields into words.
+/// Fields into words; `memory` is that of the tile that has the endpoint.
 pub fn pack(memory: u64, fields: &[u64], words: &mut [u64]) -> Answer {
     if !memory_allowed(memory) || fields.len() != FIELDS || words.len() != 3 {
         return Answer::BadMachine;

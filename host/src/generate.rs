@@ -2,12 +2,13 @@
 //! The generator follows the session on the model, so that it can name slots
 //! that hold messages, endpoints that have credits, and sizes at their limits.
 
-use crate::call::{Action, Call, Sizes, State};
+use crate::call::{Action, Call, State};
 use crate::machines::{self, Place, World};
 use crate::model::{find_slot, opcode, privileged, Command, Endpoint, Memory, Receive, Send};
-use crate::model::{ENDPOINTS, FIELDS, HEADER, MAX_MEMORY, NO_ENDPOINT, PAGE, WORDS_PER_TILE};
+use crate::model::{ENDPOINTS, FIELDS, HEADER, MAX_MEMORY, NO_ENDPOINT, PAGE};
 use crate::random::Random;
 use crate::sharing::{self, SHARING_PER_TILE};
+use crate::sizes;
 use crate::wrong::Wrong;
 
 /// A machine as it is at first, and the calls to make on it in turn.
@@ -73,100 +74,7 @@ impl<'a> Scene<'a> {
             7 => Action::Respond { tile: self.tile() },
             _ => self.waiting(),
         };
-        Call { sizes: self.sizes(), action }
-    }
-
-    // ------------------------------------------------------------ Sizes
-
-    /// The machine's own sizes, or now and then others.
-    fn sizes(&mut self) -> Sizes {
-        let right = self.world.sizes();
-        match self.random.weighted(&[96, 1, 1, 1, 1]) {
-            0 => right,
-            1 => Sizes { tiles: self.odd_tiles(), ..right },
-            2 => Sizes { memory: self.odd_memory(), ..right },
-            3 => self.odd_length(right),
-            _ => self.resized(right),
-        }
-    }
-
-    /// Among them numbers whose products with 192 wrap to the right length.
-    fn odd_tiles(&mut self) -> u64 {
-        let tiles = self.world.tiles;
-        let others = [0, 9, tiles - 1, tiles + 1, tiles + (1 << 58), tiles + (1 << 32), u64::MAX];
-        self.random.pick(&others)
-    }
-
-    /// Among them numbers whose products with the tiles wrap to the right length.
-    fn odd_memory(&mut self) -> u64 {
-        let memory = self.world.memory;
-        let near = [0, 2048, memory - 1, memory + 1, memory + 2048, memory - PAGE];
-        let far = [memory + (1 << 63), memory + (1 << 61), memory + (1 << 32), MAX_MEMORY + PAGE];
-        if self.random.chance(50) {
-            self.random.pick(&near)
-        } else {
-            self.random.pick(&far)
-        }
-    }
-
-    /// One slice shorter, or longer where there is more to lend.
-    fn odd_length(&mut self, right: Sizes) -> Sizes {
-        let state = &self.world.state;
-        let (words, sharing) = (state.words.len() as u64, state.sharing.len() as u64);
-        match self.random.below(3) {
-            0 => Sizes {
-                words_len: self.other_length(right.words_len, words, WORDS_PER_TILE),
-                ..right
-            },
-            1 => Sizes {
-                sharing_len: self.other_length(right.sharing_len, sharing, SHARING_PER_TILE),
-                ..right
-            },
-            _ => {
-                let mem = state.mem.len() as u64;
-                Sizes { mem_len: self.other_length(right.mem_len, mem, PAGE), ..right }
-            }
-        }
-    }
-
-    fn other_length(&mut self, right: u64, most: u64, step: u64) -> u64 {
-        let longer = self.random.pick(&[right + 1, right + step, most]);
-        if most > right && self.random.chance(60) {
-            return longer.min(most);
-        }
-        let part = self.random.below(right);
-        self.random.pick(&[0, right - 1, right - step, part])
-    }
-
-    /// Other sizes that agree with each other, where there is enough to lend;
-    /// these may be allowed sizes too, over the first part of the state.
-    fn resized(&mut self, right: Sizes) -> Sizes {
-        let half = PAGE / 2;
-        let large = MAX_MEMORY + PAGE;
-        let enough_for_large = self.world.state.mem.len() as u64 >= large;
-        let memories = [0, half, PAGE, PAGE + half, right.memory, right.memory, right.memory];
-        let (tiles, memory) = if enough_for_large && self.random.chance(30) {
-            (1, large)
-        } else {
-            let tiles = [0, 1, right.tiles, right.tiles + 1, 9, 9];
-            (self.random.pick(&tiles), self.random.pick(&memories))
-        };
-        let sizes = Sizes {
-            tiles,
-            memory,
-            words_len: WORDS_PER_TILE * tiles,
-            sharing_len: SHARING_PER_TILE * tiles,
-            mem_len: memory * tiles,
-        };
-        let state = &self.world.state;
-        let fits = sizes.words_len <= state.words.len() as u64
-            && sizes.sharing_len <= state.sharing.len() as u64
-            && sizes.mem_len <= state.mem.len() as u64;
-        if fits {
-            sizes
-        } else {
-            right
-        }
+        Call { sizes: sizes::any_sizes(self.random, self.world), action }
     }
 
     // ------------------------------------------------------------ Places
@@ -301,7 +209,7 @@ impl<'a> Scene<'a> {
         let sender = self.endpoint((tile, endpoint)).send();
         let over_itself = sender.and_then(|ep| self.message_over_itself(tile, &ep));
         let (data_addr, data_size) =
-            over_itself.unwrap_or_else(|| self.message(sender.map_or(6, |ep| ep.msg_sz)));
+            over_itself.unwrap_or_else(|| self.message(tile, sender.map_or(6, |ep| ep.msg_sz)));
         let arg0 = self.reply_place(tile);
         let arg1 = self.any_number();
         Command { tile, opcode: opcode::SEND, endpoint, arg0, data_addr, data_size, arg1 }
@@ -324,8 +232,8 @@ impl<'a> Scene<'a> {
         }
     }
 
-    /// DATA_ADDR and DATA_SIZE of a message through an endpoint with `msg_sz`.
-    fn message(&mut self, msg_sz: u8) -> (u64, u64) {
+    /// DATA_ADDR and DATA_SIZE of a message of a tile, through an endpoint with `msg_sz`.
+    fn message(&mut self, tile: u64, msg_sz: u8) -> (u64, u64) {
         let most = (1 << msg_sz.min(11)) - HEADER.min(1 << msg_sz.min(11));
         let size = match self.random.weighted(&[54, 18, 10, 12, 3, 3]) {
             0 => self.random.between(0, most.min(96)),
@@ -335,7 +243,11 @@ impl<'a> Scene<'a> {
             4 => most + 1,
             _ => self.random.pick(&[PAGE, 2017, u64::MAX, u64::MAX - 31, u64::MAX - 32, 1 << 63]),
         };
-        let memory = self.world.memory;
+        let memory = self.world.size_near(self.random, tile);
+        if self.random.chance(1) {
+            // Ends one byte past the memory.
+            return (memory, 1);
+        }
         let page = self.random.below(memory / PAGE) * PAGE;
         let at_page_end = page + PAGE - size.min(PAGE);
         let random = self.random.number();
@@ -383,7 +295,7 @@ impl<'a> Scene<'a> {
             Some(Endpoint::Send(ep)) => ep.msg_sz,
             _ => 6,
         };
-        let (data_addr, data_size) = self.message(msg_sz);
+        let (data_addr, data_size) = self.message(tile, msg_sz);
         let arg1 = self.any_number();
         Command { tile, opcode: opcode::REPLY, endpoint, arg0, data_addr, data_size, arg1 }
     }
@@ -454,7 +366,7 @@ impl<'a> Scene<'a> {
         };
         let over_itself = if data_size == PAGE { self.page_over_itself(&ep, tile) } else { None };
         let (data_addr, arg1) = over_itself.unwrap_or_else(|| {
-            let arg1 = self.offset(&ep, data_size);
+            let arg1 = self.offset(&ep, tile, data_size);
             (self.local_place(&ep, tile, arg1, data_size), arg1)
         });
         let arg0 = self.any_number();
@@ -465,7 +377,7 @@ impl<'a> Scene<'a> {
     /// the same tile: a page of the tile, and a place of the region less than a page
     /// away from it, or the page itself.
     fn page_over_itself(&mut self, ep: &Memory, tile: u64) -> Option<(u64, u64)> {
-        let memory = self.world.memory;
+        let memory = self.world.size_of(tile);
         let any = self.random.between(1, PAGE - 1);
         let step = self.random.pick(&[1, 8, 16, 31, PAGE - 1, any]);
         let last = ep.addr.saturating_add(ep.size).min(memory).checked_sub(PAGE)?;
@@ -482,25 +394,31 @@ impl<'a> Scene<'a> {
         Some(self.random.pick(&found))
     }
 
-    /// The ARG_1 of a READ or WRITE: within the region, at its end, past it, or
-    /// so large that a sum in 64 bits would wrap.
-    fn offset(&mut self, ep: &Memory, size: u64) -> u64 {
+    /// The ARG_1 of a READ or WRITE: within the region, at its end or that of the
+    /// target's memory, past it, or so large that a sum in 64 bits would wrap. Now and
+    /// then the acting tile's size takes the place of the target's.
+    fn offset(&mut self, ep: &Memory, tile: u64, size: u64) -> u64 {
         let room = ep.size.saturating_sub(size);
-        let reach = self.world.memory.saturating_sub(ep.addr).saturating_sub(size).min(room);
-        match self.random.weighted(&[46, 14, 12, 8, 12, 8]) {
+        let by_own_size = self.random.chance(12);
+        let top = self.world.size_of(if by_own_size { tile } else { ep.tile.into() });
+        let reach = top.saturating_sub(ep.addr).saturating_sub(size).min(room);
+        match self.random.weighted(&[38, 16, 8, 10, 8, 12, 8]) {
             0 => self.random.below(reach.max(1)),
             1 => reach,
-            2 => room,
-            3 => room.saturating_add(1),
-            4 => u64::MAX - size.saturating_sub(self.random.pick(&[0, 1, 2])),
+            2 => (reach + 1).min(room),
+            3 => room,
+            4 => room.saturating_add(1),
+            5 => u64::MAX - size.saturating_sub(self.random.pick(&[0, 1, 2])),
             _ => self.random.pick(&[0, u64::MAX, ep.size, ep.addr.wrapping_neg(), 1 << 63]),
         }
     }
 
     /// The DATA_ADDR of a READ or WRITE, on the same tile often near the remote
-    /// range, so that both overlap.
+    /// range, so that both overlap. Now and then the target's size takes the place of
+    /// the acting tile's.
     fn local_place(&mut self, ep: &Memory, tile: u64, arg1: u64, size: u64) -> u64 {
-        let memory = self.world.memory;
+        let by_target_size = self.random.chance(12);
+        let memory = self.world.size_of(if by_target_size { ep.tile.into() } else { tile });
         let remote = ep.addr.wrapping_add(arg1);
         if u64::from(ep.tile) == tile && remote < memory && self.random.chance(70) {
             let step = self.random.below(size.clamp(1, 64));
@@ -524,13 +442,12 @@ impl<'a> Scene<'a> {
         all.map(|(place, _)| place).collect()
     }
 
-    /// The words of some endpoint, acceptable or not.
-    fn some_words(&mut self) -> [u64; 3] {
-        let tile = self.random.below(self.world.tiles);
+    /// The words of some endpoint, acceptable on a tile or not.
+    fn some_words(&mut self, tile: u64) -> [u64; 3] {
         let receivers = self.receivers();
         match self.random.weighted(&[62, 28, 5, 5]) {
             0 => machines::any_endpoint(self.random, self.world, tile, &receivers).words(),
-            1 => machines::broken_words(self.random, self.world),
+            1 => machines::broken_words(self.random, self.world, tile),
             2 => [self.random.number(), self.random.number(), self.random.number()],
             _ => {
                 let mut words =
@@ -571,10 +488,15 @@ impl<'a> Scene<'a> {
         Action::Waiting { tile: self.tile(), list: self.junk(length) }
     }
 
+    /// The words are now and then those of an endpoint of another tile, which may have
+    /// less memory or more.
     fn configure(&mut self) -> Action {
         let tile = self.tile();
         let endpoint = self.any_id();
-        Action::Configure { tile, endpoint, words: self.some_words() }
+        let other = self.random.below(self.world.tiles);
+        let exists = tile < self.world.tiles;
+        let made_for = if exists && self.random.chance(70) { tile } else { other };
+        Action::Configure { tile, endpoint, words: self.some_words(made_for) }
     }
 
     /// A length that is mostly the right one.
@@ -589,13 +511,32 @@ impl<'a> Scene<'a> {
         (0..length).map(|_| self.random.number()).collect()
     }
 
+    /// The memory of a tile for `tcu_unpack` and `tcu_pack`, or now and then another
+    /// number, mostly one that is not allowed.
+    fn memory_of(&mut self, tile: u64) -> u64 {
+        let memory = self.world.size_near(self.random, tile);
+        let near = [0, 2048, memory - 1, memory + 1, memory + 2048, memory - PAGE];
+        let far = [memory + (1 << 63), memory + (1 << 32), MAX_MEMORY + PAGE, 2 * MAX_MEMORY];
+        match self.random.weighted(&[94, 3, 3]) {
+            0 => memory,
+            1 => self.random.pick(&near),
+            _ => self.random.pick(&far),
+        }
+    }
+
     fn unpack(&mut self) -> Action {
+        let tile = self.random.below(self.world.tiles);
         let length = self.list_length(FIELDS);
-        Action::Unpack { words: self.some_words(), fields: self.junk(length) }
+        Action::Unpack {
+            memory: self.memory_of(tile),
+            words: self.some_words(tile),
+            fields: self.junk(length),
+        }
     }
 
     fn pack(&mut self) -> Action {
-        let words = self.some_words();
+        let tile = self.random.below(self.world.tiles);
+        let words = self.some_words(tile);
         let mut fields = Endpoint::read(&words).fields().to_vec();
         if self.random.chance(35) {
             self.spoil(&mut fields);
@@ -603,7 +544,7 @@ impl<'a> Scene<'a> {
         let length = self.list_length(FIELDS);
         fields.resize(length, 0);
         let words_length = self.list_length(3);
-        Action::Pack { fields, words: self.junk(words_length) }
+        Action::Pack { memory: self.memory_of(tile), fields, words: self.junk(words_length) }
     }
 
     /// Makes one number of a list too large, or otherwise different.

@@ -1,7 +1,8 @@
 //! Tests of the TCU library from outside.
 //!
-//! `model` is a second, independent reading of the rules in document 01 and, for
-//! several activities on a tile, of request T-01 in document 02.
+//! `model` is a second, independent reading of the rules in document 01 and of
+//! requests T-01 (several activities on a tile) and T-03 (unequal memories) in
+//! document 02.
 //! `generate` makes machines and calls, `wire` has them run by a child process
 //! that links the library, `compare` holds the two against each other after
 //! every call, `coverage` counts which answers and corners were reached, and
@@ -18,6 +19,8 @@ pub mod model;
 pub mod random;
 pub mod report;
 pub mod sharing;
+pub mod sizes;
 pub mod stack;
+pub mod unequal;
 pub mod wire;
 pub mod wrong;

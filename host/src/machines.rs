@@ -2,7 +2,7 @@
 
 use crate::call::{Sizes, State};
 use crate::model::{find_slot, Endpoint, Memory, Receive, Send};
-use crate::model::{ENDPOINTS, NO_ENDPOINT, PAGE, UNLIMITED, WORDS_PER_TILE};
+use crate::model::{ENDPOINTS, MAX_MEMORY, NO_ENDPOINT, PAGE, UNLIMITED, WORDS_PER_TILE};
 use crate::random::Random;
 use crate::sharing::{self, Request, QUEUE, SHARING_PER_TILE};
 
@@ -10,7 +10,8 @@ use crate::sharing::{self, Request, QUEUE, SHARING_PER_TILE};
 /// these sizes ask, so that a call can also be lent too much.
 pub struct World {
     pub tiles: u64,
-    pub memory: u64,
+    /// The page count of each tile.
+    pub pages: Vec<u8>,
     pub state: State,
     /// How many endpoints in a hundred belong to the activity that runs.
     own: u64,
@@ -26,43 +27,50 @@ impl World {
     /// An empty machine of random size, its memory full of random bytes.
     fn empty(random: &mut Random) -> World {
         let tiles = [1, 2, 3, 4, 5, 6, 7, 8][random.weighted(&[12, 44, 20, 8, 4, 3, 3, 6])];
-        let pages = match random.weighted(&[60, 18, 8, 10, 4]) {
-            0 => 1,
-            1 => 2,
-            2 => 3,
-            3 => random.between(4, 15),
-            _ => 16,
-        };
-        let memory = pages * PAGE;
-        let (mut all_tiles, mut all_memory) = (tiles, memory * tiles);
+        let pages = any_pages(random, tiles);
+        let memory = Sizes::of(&pages).mem_len;
+        let (mut all_tiles, mut all_memory) = (tiles, memory);
         if random.chance(14) {
             all_tiles = random.pick(&[tiles + 1, 9]);
-            let more = random.between(1, 2 * memory);
-            all_memory = random.pick(&[all_memory + more, memory * all_tiles]);
+            let some_more = random.between(1, 2 * PAGE);
+            let page_for_each = (all_tiles - tiles) * PAGE;
+            // Enough to give one tile 17 pages.
+            let a_large_tile = MAX_MEMORY;
+            all_memory += random.pick(&[some_more, page_for_each, page_for_each, a_large_tile]);
         }
         let mut mem = vec![0; all_memory as usize];
         random.fill(&mut mem);
         let sharing = (0..all_tiles).flat_map(|_| any_record(random)).collect();
         let words = vec![0; (WORDS_PER_TILE * all_tiles) as usize];
         let own = random.pick(&[93, 93, 60]);
-        World { tiles, memory, state: State { words, sharing, mem }, own }
+        World { tiles, pages, state: State { words, sharing, mem }, own }
     }
 
     pub fn sizes(&self) -> Sizes {
-        Sizes {
-            tiles: self.tiles,
-            memory: self.memory,
-            words_len: WORDS_PER_TILE * self.tiles,
-            sharing_len: SHARING_PER_TILE * self.tiles,
-            mem_len: self.memory * self.tiles,
+        Sizes::of(&self.pages)
+    }
+
+    /// The bytes of memory of a tile; for a tile that does not exist, a page.
+    pub fn size_of(&self, tile: u64) -> u64 {
+        if tile < self.tiles {
+            u64::from(self.pages[tile as usize]) * PAGE
+        } else {
+            PAGE
         }
+    }
+
+    /// The size of a tile or, now and then, that of any other: so that what fits the
+    /// one and not the other is met.
+    pub fn size_near(&self, random: &mut Random, tile: u64) -> u64 {
+        let other = self.tile(random);
+        self.size_of(if random.chance(85) { tile } else { other })
     }
 
     /// The endpoint at a place of a table; damaged words read as INVALID.
     pub fn endpoint(&self, state: &State, (tile, id): Place) -> Endpoint {
         let at = word_index((tile, id));
         let words = &state.words[at..at + 3];
-        if crate::model::acceptable(words, self.memory) {
+        if crate::model::acceptable(words, self.size_of(tile)) {
             Endpoint::read(words)
         } else {
             Endpoint::Invalid
@@ -95,6 +103,41 @@ impl World {
     fn tile(&self, random: &mut Random) -> u64 {
         random.below(self.tiles)
     }
+
+    /// Whether a tile has a receive endpoint at first.
+    pub fn receives(&self, tile: u64) -> bool {
+        (0..ENDPOINTS).any(|id| self.endpoint(&self.state, (tile, id)).receive().is_some())
+    }
+
+    /// The tiles that get receive endpoints: all of them, or now and then all but one.
+    fn receiving(&self, random: &mut Random) -> Vec<u64> {
+        let mut tiles: Vec<u64> = (0..self.tiles).collect();
+        if self.tiles > 1 && random.chance(12) {
+            tiles.remove(self.tile(random) as usize);
+        }
+        tiles
+    }
+}
+
+/// Page counts: the same for all tiles, one for each, or a large tile among small ones.
+/// Small counts are more frequent, so that a run stays fast.
+fn any_pages(random: &mut Random, tiles: u64) -> Vec<u8> {
+    let same = page_count(random, &[60, 18, 8, 10, 4]);
+    match random.weighted(&[50, 38, 12]) {
+        0 => vec![same; tiles as usize],
+        1 => (0..tiles).map(|_| page_count(random, &[42, 25, 14, 14, 5])).collect(),
+        _ => {
+            let mut pages = vec![1; tiles as usize];
+            pages[random.below(tiles) as usize] = random.pick(&[2, 3, 16]);
+            pages
+        }
+    }
+}
+
+/// One page, two, three, more, or 16, as often as the weights say.
+fn page_count(random: &mut Random, weights: &[u64; 5]) -> u8 {
+    let more = random.between(4, 15) as u8;
+    [1, 2, 3, more, 16][random.weighted(weights)]
 }
 
 fn word_index((tile, id): Place) -> usize {
@@ -178,12 +221,13 @@ fn break_record(random: &mut Random, record: &mut [u64]) {
 
 // ---------------------------------------------------------------- Single endpoints
 
-/// An empty receive endpoint that fits into the memory, without a reply range.
+/// An empty receive endpoint that fits into the tile's memory, without a reply range.
 fn empty_receive(random: &mut Random, world: &World, tile: u64) -> Receive {
     let slots = [0, 1, 2, 3, 4, 5][random.weighted(&[18, 26, 22, 10, 6, 18])];
-    let most = 63 - world.memory.leading_zeros() as u64 - slots;
+    let size = world.size_of(tile);
+    let most = 63 - size.leading_zeros() as u64 - slots;
     let slot_size = random.pick(&[5, 5, 6, 6, 6, 7, 7, 8, 8, 9, 10, 11, 11]).min(most);
-    let room = world.memory - (1 << (slots + slot_size));
+    let room = size - (1 << (slots + slot_size));
     let buffer = match random.below(5) {
         0 => 0,
         1 => room / 8 * 8,
@@ -266,19 +310,25 @@ fn aim(random: &mut Random, world: &World, receivers: &[Place]) -> (u8, u16) {
     (random.pick(&any_tile) as u8, random.pick(&any_id) as u16)
 }
 
+/// Any memory endpoint, its region often up to the end of the target's memory or one
+/// byte past it.
 pub fn any_memory(random: &mut Random, world: &World, tile: u64) -> Memory {
-    let top = world.memory;
-    let odd_addresses = [top - 16, top, u64::MAX, 1 << 63];
-    let addresses = [0, 0, 16, random.below(top), random.below(top), random.pick(&odd_addresses)];
-    let sizes = [0, 16, PAGE, PAGE, top, top, top + 1, random.below(top), u64::MAX, u64::MAX];
     let tiles = [tile, world.tile(random), world.tile(random), world.tile(random)];
     let no_tile = [world.tiles, 8, 255];
+    let target = if random.chance(94) { random.pick(&tiles) } else { random.pick(&no_tile) };
+    let top = world.size_near(random, target);
+    let odd_addresses = [top - 16, top, u64::MAX, 1 << 63];
+    let addresses = [0, 0, 16, random.below(top), random.below(top), random.pick(&odd_addresses)];
+    let addr = random.pick(&addresses);
+    let rest = top.saturating_sub(addr);
+    let near_end = random.pick(&[rest, rest, rest + 1]);
+    let sizes = [0, 16, PAGE, PAGE, top, top + 1, near_end, random.below(top), u64::MAX, u64::MAX];
     Memory {
         act: world.act(random, tile),
         rw: [0, 1, 2, 3][random.weighted(&[4, 10, 10, 76])],
-        tile: if random.chance(94) { random.pick(&tiles) } else { random.pick(&no_tile) } as u8,
+        tile: target as u8,
         chip: if random.chance(96) { 0 } else { random.between(1, 63) as u8 },
-        addr: random.pick(&addresses),
+        addr,
         size: random.pick(&sizes),
     }
 }
@@ -343,11 +393,14 @@ fn sound(random: &mut Random) -> World {
     let mut free: Vec<Free> =
         (0..world.tiles).map(|_| Free { unused: vec![true; ENDPOINTS as usize] }).collect();
     let mut receivers = Vec::new();
-    for tile in 0..world.tiles {
+    for tile in world.receiving(random) {
         let here = &mut free[tile as usize];
         for _ in 0..random.between(1, 4) {
             receivers.extend(place_receiver(random, &mut world, tile, here));
         }
+    }
+    for tile in 0..world.tiles {
+        let here = &mut free[tile as usize];
         for _ in 0..random.below(4) {
             if let Some(id) = here.take_one(random) {
                 let ep = any_memory(random, &world, tile);
@@ -490,7 +543,7 @@ fn wild(random: &mut Random) -> World {
     let crowd = random.pick(&[6, 12, 12, 24, 50]);
     let span = random.pick(&[12, 24, 64, 64]);
     let mut receivers = Vec::new();
-    for tile in 0..world.tiles {
+    for tile in world.receiving(random) {
         for _ in 0..random.between(1, crowd / 3 + 1) {
             let id = ENDPOINTS - 1 - random.below(span);
             let ep = any_receive(random, &world, tile);
@@ -591,11 +644,10 @@ fn credit_place(random: &mut Random, world: &World, tile: u8) -> u16 {
 
 // ---------------------------------------------------------------- Damage
 
-/// Words that are not acceptable, with one fault.
-pub fn broken_words(random: &mut Random, world: &World) -> [u64; 3] {
-    let tile = world.tile(random);
+/// Words that are not acceptable on a tile, with one fault.
+pub fn broken_words(random: &mut Random, world: &World, tile: u64) -> [u64; 3] {
     let bit = |random: &mut Random, low: u64, high: u64| 1 << random.between(low, high);
-    match random.below(10) {
+    match random.below(12) {
         0 => {
             let mut words = [0; 3];
             words[random.below(3) as usize] = bit(random, 3, 63);
@@ -623,6 +675,10 @@ pub fn broken_words(random: &mut Random, world: &World) -> [u64; 3] {
             let mut words = Endpoint::Receive(any_receive(random, world, tile)).words();
             words[0] |= bit(random, 59, 63);
             words
+        }
+        6 | 7 => {
+            let ep = only_for_larger(random, world, tile);
+            Endpoint::Receive(ep.unwrap_or_else(|| broken_receive(random, world, tile))).words()
         }
         _ => Endpoint::Receive(broken_receive(random, world, tile)).words(),
     }
@@ -656,16 +712,32 @@ fn broken_receive(random: &mut Random, world: &World, tile: u64) -> Receive {
         7 if count < 32 => Receive { occupied: ep.occupied | high, ..ep },
         8 => Receive { occupied: 0, unread: 1 << random.below(count), ..ep },
         9 => Receive { buffer: ep.buffer ^ random.pick(&[1, 2, 4]), ..small },
-        _ => Receive { buffer: too_far(random, world, &ep), ..ep },
+        _ => Receive { buffer: too_far(random, world, tile, &ep), ..ep },
     }
 }
 
-/// A buffer address, a multiple of 8, from which the slots pass the memory's end.
-fn too_far(random: &mut Random, world: &World, ep: &Receive) -> u64 {
+/// A buffer address, a multiple of 8, from which the slots pass the end of the tile's
+/// memory.
+fn too_far(random: &mut Random, world: &World, tile: u64, ep: &Receive) -> u64 {
     let bytes = ep.count() * ep.slot_bytes();
-    let first = world.memory - bytes + 8;
+    let size = world.size_of(tile);
+    let first = size - bytes + 8;
     let wrapping = (u64::MAX - bytes + 1) / 8 * 8;
-    random.pick(&[first, first, world.memory, 1 << 63, u64::MAX - 7, wrapping])
+    random.pick(&[first, first, size, 1 << 63, u64::MAX - 7, wrapping])
+}
+
+/// A receive endpoint that a larger tile takes and this one does not, where there is a
+/// larger one.
+fn only_for_larger(random: &mut Random, world: &World, tile: u64) -> Option<Receive> {
+    let larger: Vec<u64> =
+        (0..world.tiles).filter(|other| world.size_of(*other) > world.size_of(tile)).collect();
+    if larger.is_empty() {
+        return None;
+    }
+    let other = random.pick(&larger);
+    let ep = any_receive(random, world, other);
+    let last = world.size_of(other) - ep.count() * ep.slot_bytes();
+    Some(Receive { buffer: last, ..ep })
 }
 
 /// Damages an otherwise good table in one place, often the first or last.
@@ -675,7 +747,7 @@ fn damage(random: &mut Random, world: &mut World) {
     let ends_of_tile = (world.tile(random), random.pick(&[0, ENDPOINTS - 1]));
     let place = random.pick(&[last, anywhere, anywhere, (0, 0), ends_of_tile]);
     if random.chance(70) {
-        let words = broken_words(random, world);
+        let words = broken_words(random, world, place.0);
         world.put_words(place, words);
     } else {
         let at = word_index(place) + random.below(3) as usize;

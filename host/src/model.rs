@@ -1,6 +1,7 @@
 //! The rules of the TCU reference machine as document 01 has them, in the order of
-//! its sentences, and those of request T-01 of document 02. Everything works on
-//! slices that the host lends.
+//! its sentences, and those of requests T-01 and T-03 of document 02. Everything
+//! works on slices that the host lends. Where document 01 says M, each tile has a
+//! size of its own: `size_of`, and `start_of`, which adds up the sizes before it.
 //! Sums of free 64-bit numbers are taken in 128 bits, so none of them wraps.
 //!
 //! `endpoint.rs` has the endpoints' words and fields, `sharing.rs` the sharing
@@ -26,7 +27,7 @@ pub const NO_ENDPOINT: u16 = 65_535;
 /// The `cur_crd` that means unlimited.
 pub const UNLIMITED: u8 = 63;
 
-/// M is a multiple of 4,096, from 4,096 to 65,536.
+/// The memory of a tile, in bytes, is a multiple of 4,096, from 4,096 to 65,536.
 pub fn memory_allowed(memory: u64) -> bool {
     memory % PAGE == 0 && (PAGE..=MAX_MEMORY).contains(&memory)
 }
@@ -123,7 +124,8 @@ pub fn find_slot(mask: u32, position: u8, slots: u8, wanted: bool) -> Option<u64
 /// What the host lends for one call.
 pub struct Machine<'a> {
     pub tiles: u64,
-    pub memory: u64,
+    /// For each tile, how many pages its memory has.
+    pub pages: &'a [u8],
     pub words: &'a mut [u64],
     pub sharing: &'a mut [u64],
     pub mem: &'a mut [u8],
@@ -168,21 +170,72 @@ impl Machine<'_> {
         demand(right, Answer::BadMachine)
     }
 
-    /// The first two tests come first so that the products below cannot wrap.
+    /// The first two tests come first: the products cannot wrap then, and each tile
+    /// has a page count.
     fn sizes_hold(&self) -> bool {
         (1..=MAX_TILES).contains(&self.tiles)
-            && memory_allowed(self.memory)
+            && self.pages_hold()
             && self.words.len() as u64 == WORDS_PER_TILE * self.tiles
             && self.sharing.len() as u64 == SHARING_PER_TILE * self.tiles
-            && self.mem.len() as u64 == self.memory * self.tiles
+            && self.mem_length_holds()
+    }
+
+    /// A count of 1 to 16 pages for each tile.
+    fn pages_hold(&self) -> bool {
+        let counts = self.pages.len() as u64;
+        let one_for_each = match self.wrong {
+            Wrong::LongerListTaken => counts >= self.tiles,
+            Wrong::ShorterListTaken => (1..=self.tiles).contains(&counts),
+            _ => counts == self.tiles,
+        };
+        let allowed = match self.wrong {
+            Wrong::NoPagesTaken => 0..=16,
+            Wrong::SeventeenPagesTaken => 1..=17,
+            _ => 1..=16,
+        };
+        one_for_each && self.pages.iter().all(|count| allowed.contains(count))
+    }
+
+    /// The lent memory ends where that of the last tile does.
+    fn mem_length_holds(&self) -> bool {
+        let (lent, end) = (self.mem.len() as u64, self.start_of(self.tiles));
+        lent == end || (self.wrong == Wrong::LongerMemoryTaken && lent > end)
+    }
+
+    /// The bytes of a tile's memory.
+    fn size_of(&self, tile: u64) -> u64 {
+        let place = match self.wrong {
+            Wrong::ShorterListTaken => (tile as usize).min(self.pages.len() - 1),
+            _ => tile as usize,
+        };
+        u64::from(self.pages[place]) * PAGE
+    }
+
+    /// A tile's memory starts where those of the tiles before it end.
+    fn start_of(&self, tile: u64) -> u64 {
+        (0..tile).map(|before| self.size_of(before)).sum()
+    }
+
+    /// So many bytes from a tile's start on, or as many as are lent: a wrong reading
+    /// must differ, but not leave the lent memory.
+    fn at_most_lent(&self, tile: u64, bytes: u64) -> u64 {
+        bytes.min(self.mem.len() as u64 - self.start_of(tile))
     }
 
     fn table_is_good(&self) -> bool {
-        if self.wrong == Wrong::SkipLastEndpoint {
-            let mut numbered = self.words.chunks_exact(3).enumerate();
-            return numbered.all(|(id, words)| id % 64 == 63 || acceptable(words, self.memory));
+        let tested = if self.wrong == Wrong::SkipLastEndpoint { 63 } else { 64 };
+        (0..).zip(self.words.chunks_exact(WORDS_PER_TILE as usize)).all(|(tile, table)| {
+            let size = self.receive_size(tile);
+            table.chunks_exact(3).take(tested).all(|words| acceptable(words, size))
+        })
+    }
+
+    /// The size that the receive buffers of a tile must fit into: its own.
+    fn receive_size(&self, tile: u64) -> u64 {
+        match self.wrong {
+            Wrong::FirstTileDecides => self.at_most_lent(tile, self.size_of(0)),
+            _ => self.size_of(tile),
         }
-        self.words.chunks_exact(3).all(|words| acceptable(words, self.memory))
     }
 
     fn records_are_good(&self) -> bool {
@@ -212,7 +265,7 @@ impl Machine<'_> {
         }
         let at = (tile * WORDS_PER_TILE + id * 3) as usize;
         let words = &self.words[at..at + 3];
-        if self.wrong == Wrong::SkipLastEndpoint && !acceptable(words, self.memory) {
+        if self.wrong == Wrong::SkipLastEndpoint && !acceptable(words, self.size_of(tile)) {
             return Endpoint::Invalid;
         }
         Endpoint::read(words)
@@ -245,14 +298,25 @@ impl Machine<'_> {
 
     /// The place in the lent memory of an address within a tile.
     fn place(&self, tile: u64, address: u64) -> usize {
-        (tile * self.memory + address) as usize
+        (self.start_of(tile) + address) as usize
+    }
+
+    /// The same for the tile that a command of the acting tile aims at.
+    fn target_place(&self, acting: u64, tile: u64, address: u64) -> usize {
+        let start = match self.wrong {
+            Wrong::StartByOwnSize => tile * self.size_of(acting),
+            Wrong::StartByTargetSize => tile * self.size_of(tile),
+            _ => return self.place(tile, address),
+        };
+        let last_start = self.mem.len() as u64 - self.size_of(tile);
+        (start.min(last_start) + address) as usize
     }
 
     // ------------------------------------------------------------ Host calls
 
     pub fn configure(&mut self, tile: u64, endpoint: u64, words: [u64; 3]) -> Answer {
         let checked = self.check_place(tile, endpoint).and_then(|()| {
-            let fits = acceptable(&words, self.memory);
+            let fits = acceptable(&words, self.receive_size(tile));
             demand(fits, Answer::BadConfig)
         });
         match checked {
@@ -397,12 +461,17 @@ impl Machine<'_> {
         };
         demand(end <= u128::from(ep.size), Answer::OutOfBounds)?;
         page_rule(call)?;
-        demand(ep.chip == 0 && u64::from(ep.tile) < self.tiles, Answer::Abort)?;
+        let target = u64::from(ep.tile);
+        demand(ep.chip == 0 && target < self.tiles, Answer::Abort)?;
+        let remote_size = match self.wrong {
+            Wrong::OwnSizeForRemote => self.at_most_lent(target, self.size_of(call.tile)),
+            _ => self.size_of(target),
+        };
         let remote_end = sum(ep.addr, call.arg1) + u128::from(call.data_size);
-        demand(remote_end <= u128::from(self.memory), Answer::Abort)?;
+        demand(remote_end <= u128::from(remote_size), Answer::Abort)?;
         self.local_range(call)?;
 
-        let remote = self.place(ep.tile.into(), ep.addr + call.arg1);
+        let remote = self.target_place(call.tile, target, ep.addr + call.arg1);
         let local = self.place(call.tile, call.data_addr);
         match permission {
             MAY_READ => self.copy(remote, local, call.data_size as usize),
@@ -424,7 +493,7 @@ impl Machine<'_> {
 
     fn local_range(&self, call: &Command) -> Checked<()> {
         let end = sum(call.data_addr, call.data_size);
-        demand(end <= u128::from(self.memory), Answer::Abort)
+        demand(end <= u128::from(self.size_of(call.tile)), Answer::Abort)
     }
 
     /// The local range of a message, which is looked at for size 0 too.
@@ -610,7 +679,7 @@ impl Machine<'_> {
             ..ep
         };
         self.write_endpoint(tile, id, Endpoint::Receive(filled));
-        let slot = self.place(tile, ep.buffer + (idx << ep.slot_size));
+        let slot = self.target_place(call.tile, tile, ep.buffer + (idx << ep.slot_size));
         self.store(message, call.data_addr, slot);
         if message.is_reply {
             self.give_credit(message, tile);

@@ -1,8 +1,8 @@
 //! Writes the first difference out in full.
 
-use crate::call::{Action, Call, Outcome, State};
+use crate::call::{Action, Call, Outcome, Sizes, State};
 use crate::compare::Difference;
-use crate::model::{acceptable, Endpoint};
+use crate::model::{acceptable, Endpoint, ENDPOINTS};
 use crate::sharing::{self, SHARING_PER_TILE};
 use crate::wire::FAULTS;
 use std::fmt::Write;
@@ -14,8 +14,8 @@ const SHOWN: usize = 12;
 pub fn describe_call(call: &Call) -> String {
     let s = &call.sizes;
     let sizes = format!(
-        "tiles {} memory {} words_len {} sharing_len {} mem_len {}",
-        s.tiles, s.memory, s.words_len, s.sharing_len, s.mem_len
+        "tiles {} pages {:?} words_len {} sharing_len {} mem_len {}",
+        s.tiles, s.pages, s.words_len, s.sharing_len, s.mem_len
     );
     let action = match &call.action {
         Action::Command(c) => format!(
@@ -39,11 +39,12 @@ pub fn describe_call(call: &Call) -> String {
             format!("tcu_waiting: tile {} waiting_len {}", tile, list.len())
         }
         Action::Wiring => "tcu_wiring".to_string(),
-        Action::Unpack { words, fields } => {
-            format!("tcu_unpack: words {:#x?} fields_len {}", words, fields.len())
+        Action::Unpack { memory, words, fields } => {
+            let length = fields.len();
+            format!("tcu_unpack: memory {} words {:#x?} fields_len {}", memory, words, length)
         }
-        Action::Pack { fields, words } => {
-            format!("tcu_pack: fields {:?} words_len {}", fields, words.len())
+        Action::Pack { memory, fields, words } => {
+            format!("tcu_pack: memory {} fields {:?} words_len {}", memory, fields, words.len())
         }
     };
     format!("{}\n  {}", action, sizes)
@@ -118,9 +119,24 @@ fn describe_bytes(text: &mut String, d: &Difference) {
     let expected = d.expected_state.mem.iter();
     let pairs = expected.zip(&d.reported_state.mem).enumerate();
     for (place, (wanted, got)) in pairs.filter(|(_, (wanted, got))| wanted != got).take(SHOWN) {
+        let (tile, address) = tile_and_address(&d.call.sizes, place as u64);
         let before = d.lent.mem[place];
-        let _ = writeln!(text, "byte {}: before {} expected {} got {}", place, before, wanted, got);
+        let _ = writeln!(
+            text,
+            "byte {} (tile {} address {}): before {} expected {} got {}",
+            place, tile, address, before, wanted, got
+        );
     }
+}
+
+/// The tile in whose memory a byte lies, and its address there; what lies behind the
+/// last tile counts as a tile more.
+fn tile_and_address(sizes: &Sizes, place: u64) -> (u64, u64) {
+    let mut tile = 0;
+    while tile < sizes.pages.len() as u64 && sizes.start_of(tile + 1) <= place {
+        tile += 1;
+    }
+    (tile, place - sizes.start_of(tile))
 }
 
 fn describe_records(text: &mut String, lent: &State) {
@@ -146,11 +162,12 @@ fn describe_table(text: &mut String, lent: &State, call: &Call) {
         if words == [0; 3] {
             continue;
         }
-        let kind = if acceptable(words, call.sizes.memory) {
+        let tile = place as u64 / ENDPOINTS;
+        let kind = if acceptable(words, call.sizes.size_of(tile)) {
             format!("{:?}", Endpoint::read(words))
         } else {
             format!("not acceptable {:#x?}", words)
         };
-        let _ = writeln!(text, "  tile {} endpoint {}: {}", place / 64, place % 64, kind);
+        let _ = writeln!(text, "  tile {} endpoint {}: {}", tile, place as u64 % ENDPOINTS, kind);
     }
 }

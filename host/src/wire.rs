@@ -1,14 +1,14 @@
 //! The line to a runner: a child process that makes the calls. A session goes
 //! out as one batch, and the runner answers with one reply for each call.
 //!
-//! Everything is 64-bit numbers, least byte first, but for the bytes of memory.
-//! A batch is
+//! Everything is 64-bit numbers, least byte first, but for the bytes of memory and
+//! the page counts, which are bytes too. A batch is
 //!
 //!   mark, lengths of words, sharing and mem, number of calls, bytes of all calls,
 //!   the words, the sharing records, the memory, the calls;
 //!
-//! a call is fifteen numbers (see `encode_call`) and the two lists of `tcu_pack`
-//! and `tcu_unpack`, the first also that of `tcu_waiting`; a reply is
+//! a call is fifteen numbers (see `encode_call`), the page counts, and the two lists
+//! of `tcu_pack` and `tcu_unpack`, the first also that of `tcu_waiting`; a reply is
 //!
 //!   answer, ARG_1, faults, bytes of stack used, number of changed words, of
 //!   changed words of sharing records, and of changed ranges, each word as place
@@ -29,7 +29,7 @@ use std::process::{Child, ChildStdin, ChildStdout, Command as Process, Stdio};
 const MARK: u64 = u64::from_le_bytes(*b"tcubatch");
 
 /// What the runner found wrong besides the results, one bit each.
-pub const FAULTS: [&str; 10] = [
+pub const FAULTS: [&str; 12] = [
     "wrote beside words",
     "wrote beside sharing",
     "wrote beside mem",
@@ -40,6 +40,8 @@ pub const FAULTS: [&str; 10] = [
     "wrote into words that are only read",
     "wrote into mem that is only read",
     "wrote into fields that are only read",
+    "wrote beside pages",
+    "wrote into pages, which are only read",
 ];
 
 /// The runner's answer to one call.
@@ -105,12 +107,13 @@ fn lists(call: &Call) -> (&[u64], &[u64]) {
     match &call.action {
         Action::Unpack { fields, .. } => (fields, &[]),
         Action::Waiting { list, .. } => (list, &[]),
-        Action::Pack { fields, words } => (fields, words),
+        Action::Pack { fields, words, .. } => (fields, words),
         _ => (&[], &[]),
     }
 }
 
-/// Function, five sizes, tile, endpoint, five numbers, two lengths of lists.
+/// Function, tiles, four lengths of slices, tile, endpoint, five numbers, two lengths
+/// of lists; the page counts; the lists.
 fn encode_call(out: &mut Vec<u8>, call: &Call) {
     let (tile, endpoint, numbers) = match &call.action {
         Action::Command(c) => {
@@ -120,29 +123,31 @@ fn encode_call(out: &mut Vec<u8>, call: &Call) {
             (*tile, *endpoint, [*first, *second, *third, 0, 0])
         }
         Action::Invalidate { tile, endpoint } => (*tile, *endpoint, [0; 5]),
-        Action::Unpack { words: [first, second, third], .. } => {
-            (0, 0, [*first, *second, *third, 0, 0])
+        Action::Unpack { memory, words: [first, second, third], .. } => {
+            (0, 0, [*first, *second, *third, *memory, 0])
         }
-        Action::Wiring | Action::Pack { .. } => (0, 0, [0; 5]),
+        Action::Pack { memory, .. } => (0, 0, [0, 0, 0, *memory, 0]),
+        Action::Wiring => (0, 0, [0; 5]),
         Action::Privileged { tile, opcode, arg0, arg1 } => {
             (*tile, 0, [*opcode, *arg0, 0, 0, *arg1])
         }
         Action::Respond { tile } | Action::Waiting { tile, .. } => (*tile, 0, [0; 5]),
     };
     let s = &call.sizes;
-    let lengths = [s.words_len, s.sharing_len, s.mem_len];
-    put(out, &[call.action.function() as u64, s.tiles, s.memory]);
-    put(out, &lengths);
+    put(out, &[call.action.function() as u64, s.tiles]);
+    put(out, &[s.pages.len() as u64, s.words_len, s.sharing_len, s.mem_len]);
     put(out, &[tile, endpoint]);
     put(out, &numbers);
     let (fields, packed) = lists(call);
     put(out, &[fields.len() as u64, packed.len() as u64]);
+    out.extend_from_slice(&s.pages);
     put(out, fields);
     put(out, packed);
 }
 
 fn decode_call(input: &mut impl Read) -> io::Result<Call> {
     let head = take_list(input, 15)?;
+    let pages = take_bytes(input, head[2])?;
     let fields = take_list(input, head[13])?;
     let packed = take_list(input, head[14])?;
     let (tile, endpoint) = (head[6], head[7]);
@@ -160,20 +165,15 @@ fn decode_call(input: &mut impl Read) -> io::Result<Call> {
         1 => Action::Configure { tile, endpoint, words },
         2 => Action::Invalidate { tile, endpoint },
         3 => Action::Wiring,
-        4 => Action::Unpack { words, fields },
-        5 => Action::Pack { fields, words: packed },
+        4 => Action::Unpack { memory: head[11], words, fields },
+        5 => Action::Pack { memory: head[11], fields, words: packed },
         6 => Action::Privileged { tile, opcode: head[8], arg0: head[9], arg1: head[12] },
         7 => Action::Respond { tile },
         8 => Action::Waiting { tile, list: fields },
         _ => return Err(bad_data("no such function")),
     };
-    let sizes = Sizes {
-        tiles: head[1],
-        memory: head[2],
-        words_len: head[3],
-        sharing_len: head[4],
-        mem_len: head[5],
-    };
+    let sizes =
+        Sizes { tiles: head[1], pages, words_len: head[3], sharing_len: head[4], mem_len: head[5] };
     Ok(Call { sizes, action })
 }
 

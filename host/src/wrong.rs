@@ -43,11 +43,20 @@ pub enum Wrong {
     OnlyOldestTested,
     SkipLastRecord,
     WaitingTileFirst,
+    OwnSizeForRemote,
+    StartByOwnSize,
+    StartByTargetSize,
+    FirstTileDecides,
+    NoPagesTaken,
+    SeventeenPagesTaken,
+    ShorterListTaken,
+    LongerListTaken,
+    LongerMemoryTaken,
 }
 
 /// Every wrong rule: its name on the command line and what it does.
 #[rustfmt::skip]
-pub const WRONG_RULES: [(Wrong, &str, &str); 37] = [
+pub const WRONG_RULES: [(Wrong, &str, &str); 46] = [
     (Wrong::CreditForRefusedSend, "credit-for-refused-send", "a refused SEND takes a credit"),
     (Wrong::SearchFromZero, "search-from-zero", "every slot search starts at 0"),
     (Wrong::SearchWithoutTurn, "search-without-turn", "a slot search ends at the last slot"),
@@ -85,6 +94,15 @@ pub const WRONG_RULES: [(Wrong, &str, &str); 37] = [
     (Wrong::OnlyOldestTested, "only-oldest-tested", "only the oldest request is tested"),
     (Wrong::SkipLastRecord, "skip-last-record", "the last tile's record is not tested"),
     (Wrong::WaitingTileFirst, "waiting-tile-first", "tcu_waiting tests its list after the tile"),
+    (Wrong::OwnSizeForRemote, "own-size-for-remote", "a remote range must fit the own tile's size"),
+    (Wrong::StartByOwnSize, "start-by-own-size", "target t starts at t times the own tile's size"),
+    (Wrong::StartByTargetSize, "start-by-target-size", "target t starts at t times its own size"),
+    (Wrong::FirstTileDecides, "first-tile-decides", "receive buffers must fit tile 0's memory"),
+    (Wrong::NoPagesTaken, "no-pages-taken", "a page count of 0 is taken"),
+    (Wrong::SeventeenPagesTaken, "seventeen-pages-taken", "a page count of 17 is taken"),
+    (Wrong::ShorterListTaken, "shorter-list-taken", "the last page count stands for missing ones"),
+    (Wrong::LongerListTaken, "longer-list-taken", "page counts past the last tile are passed over"),
+    (Wrong::LongerMemoryTaken, "longer-memory-taken", "lent memory may be longer than the pages"),
 ];
 
 impl Wrong {

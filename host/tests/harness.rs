@@ -3,7 +3,7 @@
 use std::process::Command;
 use tcu_host::call::{Action, Sizes, State, FUNCTIONS};
 use tcu_host::generate::session;
-use tcu_host::model::{acceptable, opcode, privileged};
+use tcu_host::model::{acceptable, opcode, privileged, ENDPOINTS};
 use tcu_host::sharing;
 use tcu_host::stack::Stack;
 use tcu_host::wrong::{Wrong, WRONG_RULES};
@@ -63,10 +63,22 @@ fn a_session_depends_on_seed_and_number_alone() {
     assert!(once.state != other.state);
 }
 
+/// Boards of several tiles: some of one size, some of unequal sizes.
+#[test]
+fn boards_are_equal_and_unequal() {
+    let boards: Vec<Vec<u8>> =
+        (0..400).map(|number| session(5, number).calls[0].sizes.pages.clone()).collect();
+    let several = boards.iter().filter(|pages| pages.len() > 1);
+    let (equal, unequal): (Vec<_>, Vec<_>) =
+        several.partition(|pages| pages.iter().all(|count| *count == pages[0]));
+    assert!(equal.len() > 100 && unequal.len() > 100, "{} {}", equal.len(), unequal.len());
+}
+
 fn is_good(state: &State, sizes: &Sizes) -> bool {
-    let mut table = state.words[..sizes.words_len as usize].chunks_exact(3);
+    let mut table = (0..).zip(state.words[..sizes.words_len as usize].chunks_exact(3));
     let mut records = state.sharing[..sizes.sharing_len as usize].chunks_exact(67);
-    table.all(|endpoint| acceptable(endpoint, sizes.memory)) && records.all(sharing::acceptable)
+    table.all(|(place, words)| acceptable(words, sizes.size_of(place / ENDPOINTS)))
+        && records.all(sharing::acceptable)
 }
 
 /// What holds of every call, whatever the rules say in detail: a refusal changes

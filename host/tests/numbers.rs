@@ -1,11 +1,11 @@
 //! Document 01's "Numbers on both sides", held against the model, and the words of
-//! request T-01 in document 02.
+//! requests T-01 and T-03 in document 02.
 
 use tcu_host::call::{Sizes, State};
 use tcu_host::model::{
     self, find_slot, opcode, privileged, Command, Endpoint, Memory, Receive, Send,
 };
-use tcu_host::model::{NO_ENDPOINT, WORDS_PER_TILE};
+use tcu_host::model::{Machine, NO_ENDPOINT, PAGE, WORDS_PER_TILE};
 use tcu_host::sharing::{self, SHARING_PER_TILE};
 use tcu_host::wrong::Wrong;
 
@@ -18,21 +18,16 @@ struct Bench {
 }
 
 impl Bench {
-    fn new(tiles: u64, memory: u64) -> Bench {
-        let sizes = Sizes {
-            tiles,
-            memory,
-            words_len: WORDS_PER_TILE * tiles,
-            sharing_len: SHARING_PER_TILE * tiles,
-            mem_len: memory * tiles,
-        };
+    /// A machine whose tiles have these page counts.
+    fn new(pages: &[u8]) -> Bench {
+        let sizes = Sizes::of(pages);
         let state = State {
             words: vec![0; sizes.words_len as usize],
             sharing: vec![0; sizes.sharing_len as usize],
             mem: vec![0; sizes.mem_len as usize],
         };
         let mut bench = Bench { sizes, state };
-        for tile in 0..tiles {
+        for tile in 0..pages.len() as u64 {
             bench.exchange(tile, ACT.into());
         }
         bench
@@ -136,7 +131,7 @@ fn p2_to_p6_free_slots() {
 
 #[test]
 fn p7_fetch() {
-    let mut bench = Bench::new(1, 4096);
+    let mut bench = Bench::new(&[1]);
     let full =
         Receive { occupied: 0b0101, unread: 0b0101, rpos: 1, ..receive(2, 8, 0, NO_ENDPOINT) };
     bench.configure(0, 3, Endpoint::Receive(full));
@@ -147,7 +142,7 @@ fn p7_fetch() {
 
 /// A machine of one tile with two pages whose endpoint 4 sends to endpoint 7.
 fn sending(msg_sz: u8) -> Bench {
-    let mut bench = Bench::new(1, 8192);
+    let mut bench = Bench::new(&[2]);
     bench.configure(0, 4, Endpoint::Send(send(0, 7, 2, msg_sz)));
     bench.configure(0, 7, Endpoint::Receive(receive(1, 11, 0, NO_ENDPOINT)));
     bench
@@ -173,7 +168,7 @@ fn p9_page_rule() {
 #[test]
 fn p10_slot_of_arg0() {
     let full = Receive { occupied: 0b1111, ..receive(2, 8, 0, NO_ENDPOINT) };
-    let mut bench = Bench::new(1, 4096);
+    let mut bench = Bench::new(&[1]);
     bench.configure(0, 3, Endpoint::Receive(full));
     assert_eq!(bench.command(command(0, opcode::ACK_MSG, 3, 1024, 0, 0)).0, 12);
     assert_eq!(bench.command(command(0, opcode::ACK_MSG, 3, 1023, 0, 0)).0, 0);
@@ -183,7 +178,7 @@ fn p10_slot_of_arg0() {
 
 #[test]
 fn reads_of_a_region() {
-    let mut bench = Bench::new(1, 4096);
+    let mut bench = Bench::new(&[1]);
     let region = Memory { act: ACT, rw: 1, tile: 0, chip: 0, addr: 0, size: 64 };
     bench.configure(0, 2, Endpoint::Memory(region));
     let mut read = |size, arg1| bench.command(command(0, opcode::READ, 2, 0, size, arg1));
@@ -195,7 +190,7 @@ fn reads_of_a_region() {
 
 #[test]
 fn the_session() {
-    let mut bench = Bench::new(2, 4096);
+    let mut bench = Bench::new(&[1, 1]);
     bench.configure(0, 4, Endpoint::Send(send(1, 7, 2, 8)));
     bench.configure(0, 6, Endpoint::Receive(receive(1, 6, 2048, NO_ENDPOINT)));
     bench.configure(1, 7, Endpoint::Receive(receive(1, 8, 1024, 20)));
@@ -234,7 +229,7 @@ fn the_session() {
 /// The header that the session's first message leaves in tile 1's slot 0.
 #[test]
 fn the_header() {
-    let mut bench = Bench::new(2, 4096);
+    let mut bench = Bench::new(&[1, 1]);
     let labelled = Send { label: 0x0102_0304_0506_0708, ..send(1, 7, 2, 8) };
     bench.configure(0, 4, Endpoint::Send(labelled));
     bench.configure(0, 6, Endpoint::Receive(receive(1, 6, 2048, NO_ENDPOINT)));
@@ -260,7 +255,7 @@ fn the_header() {
 /// A machine of two tiles: endpoint 4 of tile 0 sends, without end, to endpoint 7
 /// of tile 1, which belongs to activity `act` and has 32 slots.
 fn shared(act: u16) -> Bench {
-    let mut bench = Bench::new(2, 4096);
+    let mut bench = Bench::new(&[1, 1]);
     bench.configure(0, 4, Endpoint::Send(send(1, 7, 63, 5)));
     let receiver = Receive { act, ..receive(5, 5, 1024, NO_ENDPOINT) };
     bench.configure(1, 7, Endpoint::Receive(receiver));
@@ -339,7 +334,7 @@ fn the_queue_holds_64() {
 /// not unread, so nothing is taken away.
 #[test]
 fn a_lost_reply_is_counted() {
-    let mut bench = Bench::new(1, 4096);
+    let mut bench = Bench::new(&[1]);
     let receiver = Receive { occupied: 1, ..receive(1, 5, 0, 20) };
     bench.configure(0, 7, Endpoint::Receive(receiver));
     let reply_ep = Send { reply: true, crd_ep: NO_ENDPOINT, ..send(0, 7, 1, 5) };
@@ -370,4 +365,138 @@ fn records_that_are_refused() {
     assert!(!with(3, 0) && !with(3, 1) && !with(3, 3), "another type");
     assert!(!with(66, 2 | 64 << 2) && !with(3, 2 | 1 << 17), "no such endpoint");
     assert!(!with(66, 2 | 1 << 18) && !with(3, 2 | 1 << 47), "an unnamed bit");
+}
+
+// ---------------------------------------------------------------- Unequal memories
+
+/// A board of three tiles with one page, three and two. Endpoint t of each tile is a
+/// region of tile t without an end of its own.
+fn unequal() -> Bench {
+    let mut bench = Bench::new(&[1, 3, 2]);
+    for (tile, target) in (0..9).map(|pair| (pair / 3, pair % 3)) {
+        let region =
+            Memory { act: ACT, rw: 3, tile: target as u8, chip: 0, addr: 0, size: u64::MAX };
+        bench.configure(tile, target, Endpoint::Memory(region));
+    }
+    bench
+}
+
+/// A tile's command on its region of another tile: `size` bytes from `remote` on, and
+/// from `local` on in its own memory.
+fn moved(opcode: u64, tile: u64, local: u64, target: u64, remote: u64, size: u64) -> Command {
+    Command {
+        tile,
+        opcode,
+        endpoint: target,
+        arg0: 0,
+        data_addr: local,
+        data_size: size,
+        arg1: remote,
+    }
+}
+
+#[test]
+fn the_memories_follow_one_another() {
+    let mut bench = unequal();
+    let page = PAGE as usize;
+    bench.state.mem[4 * page + 8..][..6].copy_from_slice(b"tile 2");
+    assert_eq!(bench.command(moved(opcode::READ, 1, 8192, 2, 8, 6)).0, 0);
+    assert_eq!(&bench.state.mem[page + 8192..][..6], b"tile 2");
+    assert_eq!(bench.command(moved(opcode::WRITE, 1, 8192, 0, 4090, 6)).0, 0);
+    assert_eq!(&bench.state.mem[4090..page], b"tile 2");
+    assert_eq!(bench.state.mem[page], 0, "the next tile's memory is as it was");
+}
+
+#[test]
+fn a_range_ends_with_its_own_tile() {
+    let answer = |command| unequal().command(command).0;
+    let sizes = [4096, 12_288, 8192];
+    for (tile, target) in (0..9).map(|pair| (pair / 3, pair % 3)) {
+        for opcode in [opcode::READ, opcode::WRITE] {
+            let (local, remote) = (sizes[tile as usize] - 16, sizes[target as usize] - 16);
+            assert_eq!(answer(moved(opcode, tile, local, target, remote, 16)), 0);
+            assert_eq!(answer(moved(opcode, tile, local, target, remote + 1, 16)), 14);
+            assert_eq!(answer(moved(opcode, tile, local + 16, target, remote, 1)), 14);
+        }
+    }
+}
+
+#[test]
+fn a_payload_ends_with_its_own_tile() {
+    let sent = |tile: u64, data_addr: u64, size: u64| {
+        let mut bench = Bench::new(&[1, 3, 2]);
+        bench.configure(tile, 4, Endpoint::Send(send(2, 7, 2, 8)));
+        bench.configure(2, 7, Endpoint::Receive(receive(0, 8, 0, NO_ENDPOINT)));
+        let at_zero = command(tile, opcode::SEND, 4, 65_535, size, 0);
+        bench.command(Command { data_addr, ..at_zero }).0
+    };
+    assert_eq!((sent(0, 4080, 16), sent(0, 4096, 0)), (0, 0));
+    assert_eq!((sent(0, 4096, 1), sent(0, 4112, 0)), (14, 14), "the target has this address");
+    assert_eq!((sent(1, 12_272, 16), sent(1, 12_288, 0)), (0, 0), "the target has not");
+    assert_eq!((sent(1, 12_288, 1), sent(1, 12_304, 0)), (14, 14));
+}
+
+#[test]
+fn a_receive_buffer_fits_its_own_tile() {
+    let mut bench = Bench::new(&[1, 3, 2]);
+    let last = Endpoint::Receive(receive(1, 11, 8192, NO_ENDPOINT)).words();
+    let past = Endpoint::Receive(receive(1, 11, 8200, NO_ENDPOINT)).words();
+    let mut configured =
+        |tile, words| bench.state.machine(&bench.sizes, Wrong::Nothing).configure(tile, 7, words);
+    assert_eq!([0, 1, 2].map(|tile| configured(tile, last) as u32), [103, 0, 103]);
+    assert_eq!([0, 1, 2].map(|tile| configured(tile, past) as u32), [103; 3]);
+    let mut fields = [0; 11];
+    let mut unpacked = |memory| model::unpack(memory, last, &mut fields) as u32;
+    assert_eq!([8192, 12_288, 65_536, 12_287, 69_632].map(&mut unpacked), [103, 0, 0, 100, 100]);
+    // The same words in the table of the tile before or after: not a good table.
+    for tile in [0, 2] {
+        let at = (tile * WORDS_PER_TILE + 21) as usize;
+        bench.state.words[at..at + 3].copy_from_slice(&last);
+        assert_eq!(bench.command(command(1, opcode::IDLE, 0, 0, 0, 0)).0, 100);
+        bench.state.words[at..at + 3].fill(0);
+    }
+    assert_eq!(bench.command(command(1, opcode::IDLE, 0, 0, 0, 0)).0, 0);
+}
+
+#[test]
+fn a_message_is_delivered_behind_the_tiles_before() {
+    let mut bench = Bench::new(&[1, 3, 2]);
+    bench.configure(1, 4, Endpoint::Send(Send { label: 9, ..send(2, 7, 2, 11) }));
+    bench.configure(2, 7, Endpoint::Receive(receive(0, 11, 8192 - 2048, NO_ENDPOINT)));
+    let end = bench.state.mem.len();
+    bench.state.mem[2 * 4096..][..2016].fill(5);
+    let at_zero = command(1, opcode::SEND, 4, 65_535, 2016, 0);
+    assert_eq!(bench.command(Command { data_addr: 4096, ..at_zero }).0, 0);
+    assert_eq!(bench.state.mem[end - 2048 + 16], 9, "the label in the header");
+    assert_eq!(bench.state.mem[end - 2016..], [5; 2016]);
+}
+
+/// What a machine of these sizes answers to IDLE; table and records are empty.
+fn idle_on(tiles: u64, pages: &[u8], mem_len: u64) -> u32 {
+    let mut machine = Machine {
+        tiles,
+        pages,
+        words: &mut vec![0; (WORDS_PER_TILE * tiles) as usize],
+        sharing: &mut vec![0; (SHARING_PER_TILE * tiles) as usize],
+        mem: &mut vec![0; mem_len as usize],
+        wrong: Wrong::Nothing,
+    };
+    machine.command(&command(0, opcode::IDLE, 0, 0, 0, 0)).0 as u32
+}
+
+#[test]
+fn page_counts_that_are_refused() {
+    assert_eq!(idle_on(2, &[1, 16], 17 * PAGE), 0);
+    assert_eq!(idle_on(8, &[1, 2, 3, 4, 5, 6, 7, 16], 44 * PAGE), 0);
+    assert_eq!(idle_on(2, &[0, 16], 16 * PAGE), 100, "no page");
+    assert_eq!(idle_on(2, &[1, 17], 18 * PAGE), 100, "17 pages");
+    assert_eq!(idle_on(1, &[255], 255 * PAGE), 100, "255 pages");
+    assert_eq!(idle_on(2, &[2], 2 * PAGE), 100, "a count too few");
+    assert_eq!(idle_on(2, &[1, 1, 1], 2 * PAGE), 100, "a count too many");
+    assert_eq!(idle_on(2, &[1, 1, 1], 3 * PAGE), 100, "and memory for it");
+    assert_eq!(idle_on(9, &[1; 9], 9 * PAGE), 100, "nine tiles");
+    assert_eq!(idle_on(0, &[], 0), 100, "no tile");
+    for other in [0, 16 * PAGE, 17 * PAGE - 1, 17 * PAGE + 1, 18 * PAGE, 32 * PAGE] {
+        assert_eq!(idle_on(2, &[1, 16], other), 100, "lent memory of {} bytes", other);
+    }
 }

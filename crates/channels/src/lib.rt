@@ -130,7 +130,8 @@ pub fn memory_target(b: Board, m: MemoryFields) -> Target {
     if b.tiles <= m.tile as u64 {
         return Target::NoTile;
     }
-    if numbers::sum_above(m.addr, m.size, b.memory) {
+    let memory = board::size(b, m.tile as u64);
+    if numbers::sum_above(m.addr, m.size, memory) {
         return Target::PastMemory;
     }
     Target::There
@@ -144,6 +145,12 @@ fn is_nothing(t: Target) -> bool {
 }
 
 // ---- questions
+
+// A receive endpoint's buffer has to fit the memory of its own tile.
+fn is_unacceptable(b: Board, words: &[u64], number: u64) -> bool {
+    let memory = board::size(b, number / 64);
+    !endpoint::acceptable_words(memory, words_at(words, number))
+}
 
 fn is_open(words: &[u64], number: u64) -> bool {
     let e = endpoint_at(words, number);
@@ -183,9 +190,7 @@ fn sends_to(words: &[u64], number: u64, receiver: u64) -> bool {
 
 fn holds(b: Board, words: &[u64], number: u64, asked: Question) -> bool {
     match asked {
-        Question::IsUnacceptable => {
-            !endpoint::acceptable_words(b.memory, words_at(words, number))
-        }
+        Question::IsUnacceptable => is_unacceptable(b, words, number),
         Question::IsOpen => is_open(words, number),
         Question::AimsAtNothing => aims_at_nothing(b, words, number),
         Question::ReachesMemoryOf(tile) => reaches_memory_of(words, number, tile),

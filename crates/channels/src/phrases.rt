@@ -31,6 +31,32 @@ pub fn missing(buf: &mut [u8], fill: usize, t: Target, chip: u8, tile: u8) -> us
     }
 }
 
+// The first tile whose memory has no allowed size.
+fn bad_tile(b: Board) -> u64 {
+    let mut tile: u64 = 0;
+    while tile < 8 {
+        if !board::memory_allowed(board::size(b, tile)) {
+            return tile;
+        }
+        tile = tile + 1;
+    }
+    tile
+}
+
+fn bad_board(buf: &mut [u8], fill: usize, b: Board) -> usize {
+    if crate::tiles(b) == 0 {
+        return say(buf, fill, b"# tiles are not allowed", &[b.tiles]);
+    }
+    let tile = bad_tile(b);
+    let pages = board::size(b, tile) / 4096;
+    say(
+        buf,
+        fill,
+        b"tile # with # pages is not allowed",
+        &[tile, pages],
+    )
+}
+
 fn wrong_lengths(buf: &mut [u8], fill: usize, b: Board, words: u64, acts: u64) -> usize {
     let n = crate::tiles(b);
     let at = say(
@@ -53,15 +79,7 @@ pub fn refusal(
 ) -> usize {
     match f {
         Fit::Right => fill,
-        Fit::BadBoard => {
-            let v = [b.tiles, b.memory];
-            say(
-                buf,
-                fill,
-                b"# tiles with # bytes of memory each are not allowed",
-                &v,
-            )
-        }
+        Fit::BadBoard => bad_board(buf, fill, b),
         Fit::WrongLengths => { wrong_lengths(buf, fill, b, words.len() as u64, acts.len() as u64) }
         Fit::Unacceptable(number) => {
             let v = [number / 64, number % 64];

@@ -15,10 +15,7 @@ impl Checked {
     // The board of a script that has no mistake.
     pub fn board(self) -> Board {
         let c = self.context;
-        Board {
-            tiles: c.tiles,
-            memory: c.memory,
-        }
+        c.board
     }
 }
 
@@ -52,7 +49,7 @@ fn one_line(
 // After the last line, of which there are `count`: a script that ends before its board is a mistake too.
 fn ended(f: Checked, count: u64, buf: &mut [u8]) -> Checked {
     let c = f.context;
-    if c.tiles != 0 {
+    if c.board.tiles != 0 {
         return f;
     }
     Checked {

@@ -7,21 +7,28 @@ ghost use Prim.Native.Nat.{_≤_, _<_};
 // How many bytes to a line of `dump`.
 const ROW: u64 = 16;
 
-// The bytes of so many tiles. The script was checked: the remainders change neither number.
-fn bytes_of_tiles(tiles: u64, memory: u64) -> u64
+// Where a tile's memory starts among the bytes of all tiles, and for the number of tiles where the last one's ends. The script was
+// checked: its board is allowed, and no tile is asked for that it does not have.
+fn start(b: Board, tile: u64) -> u64
     ensures { λ r. ⌜ r ≤ 524288 ⌝ }
 {
-    (tiles % 9) * (memory % 65537)
+    if !board::board_allowed(b) {
+        return 0;
+    }
+    if b.tiles < tile {
+        return 0;
+    }
+    board::start(b, tile)
 }
 
 // The bytes of all tiles.
 pub fn bytes_of(b: Board) -> usize {
-    bytes_of_tiles(b.tiles, b.memory) as usize
+    start(b, b.tiles) as usize
 }
 
 // Where an address of a tile lies among the bytes of all tiles.
 pub fn place(b: Board, tile: u64, address: u64) -> usize {
-    (bytes_of_tiles(tile, b.memory) + address % 65536) as usize
+    (start(b, tile) + address % 65536) as usize
 }
 
 fn get(mem: &[u8], i: usize) -> u8 {

@@ -74,7 +74,7 @@ fn endpoints(buf: &mut [u8], fill: usize, b: Board, words: &[u64], t: u64, runni
 
 fn memory(buf: &mut [u8], fill: usize, b: Board, words: &[u64], t: u64) -> usize {
     if channels::any(b, words, Question::ReachesMemoryOf(t)) {
-        return nodes::tile_memory(buf, fill, t, b.memory);
+        return nodes::tile_memory(buf, fill, t, board::size(b, t));
     }
     fill
 }

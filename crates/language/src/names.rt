@@ -2,8 +2,8 @@
 
 pub const WIDTH: usize = 18;
 
-// The statements, and after them the kinds of endpoints: `endpoint` with a kind is a statement of its own. The number of a
-// statement is its row.
+// The statements, and after them the kinds of endpoints and the other form of a board: `endpoint` with a kind is a statement of
+// its own, and so is `board` with `pages`. The number of a statement is its row.
 pub const STATEMENTS: usize = 0;
 
 pub const BOARD: usize = 0;
@@ -52,33 +52,35 @@ pub const MEMORY_KIND: usize = 25;
 
 pub const WORDS_KIND: usize = 26;
 
-pub const FIELDS: usize = 27;
+pub const PAGES: usize = 27;
+
+pub const FIELDS: usize = 28;
 
 // The answers of document 01, in the order of their numbers.
-pub const ANSWERS: usize = 56;
+pub const ANSWERS: usize = 57;
 
-pub const BAD_MACHINE: usize = 78;
+pub const BAD_MACHINE: usize = 79;
 
-pub const YES: usize = 82;
+pub const YES: usize = 83;
 
-pub const NO: usize = 83;
+pub const NO: usize = 84;
 
 // What stands for a number: none, unlimited, r, w, rw.
-pub const VALUES: usize = 84;
+pub const VALUES: usize = 85;
 
-pub const NONE: usize = 84;
+pub const NONE: usize = 85;
 
-pub const UNLIMITED: usize = 85;
+pub const UNLIMITED: usize = 86;
 
-pub const R: usize = 86;
+pub const R: usize = 87;
 
-pub const W: usize = 87;
+pub const W: usize = 88;
 
-pub const RW: usize = 88;
+pub const RW: usize = 89;
 
-pub const PAST: usize = 89;
+pub const PAST: usize = 90;
 
-const NAMES: [u8; 1602] = *b"\
+const NAMES: [u8; 1620] = *b"\
     board             \
     activity          \
     endpoint          \
@@ -106,6 +108,7 @@ const NAMES: [u8; 1602] = *b"\
     receive           \
     memory            \
     words             \
+    pages             \
     tiles             \
     memory            \
     id                \

@@ -61,8 +61,10 @@ pub const ARG0: usize = 27;
 
 pub const ARG1: usize = 28;
 
-// The operands: the tile of TILE:ENDPOINT and TILE:ADDRESS, what stands after the colon, three words, how many bytes, where
-// the bytes of `bytes` start in the line, and the name after `expect`.
+// The operands: the page counts of a board, as `board::Board` holds them; the tile of TILE:ENDPOINT and TILE:ADDRESS, what stands
+// after the colon, three words, how many bytes, where the bytes of `bytes` start in the line, and the name after `expect`.
+pub const PAGES: usize = 31;
+
 pub const OF_TILE: usize = 32;
 
 pub const PLACE: usize = 33;
@@ -79,42 +81,47 @@ pub const ITEMS: usize = 38;
 
 pub const ANSWER: usize = 39;
 
-const WIDTH: usize = 47;
+// So many operands at most.
+pub const OPERANDS: usize = 8;
 
-const ROWS: usize = 27;
+const WIDTH: usize = 51;
+
+const ROWS: usize = 28;
 
 // A row for each statement, in the order of its names. After the name, for the reader alone: what it answers (c a command's
-// answer, a another, w yes or no, . nothing); up to four operands (t a tile of the board, p a tile, e TILE:ENDPOINT, s the same on the
-// board, a TILE:ADDRESS on the board, b bytes, c how many bytes, 1 2 3 words, n an answer's name); and for each field whether
-// it must be given (*), may be (=) or has no place there (.), in the order of the fields' numbers above.
-const SHAPES: [u8; 1269] = *b"\
-    board      . .... **...........................\
-    activity   . t... ..*..........................\
-    endpoint   . e... .............................\
-    invalidate a e... .............................\
-    bytes      . ab.. .............................\
-    IDLE       c e... .......................==..==\
-    SEND       c e... .......................==..==\
-    REPLY      c e... .......................==..==\
-    READ       c e... .......................==..==\
-    WRITE      c e... .......................==..==\
-    FETCH      c e... .......................==..==\
-    ACK_MSG    c e... .......................==..==\
-    COMMAND    c e... .......................==.*==\
-    XCHG_ACT   c p... ...........................*.\
-    PRIVILEGED c p... ..........................*==\
-    respond    a p... .............................\
-    wiring     w .... .............................\
-    expect     . n... ............................=\
-    show       . s... .............................\
-    dump       . ac.. .............................\
-    waiting    . t... .............................\
-    sheet      . .... .............................\
-    drawing    . .... .............................\
-    send       a .... ...******====................\
-    receive    a .... ...*.........****====........\
-    memory     a .... ...*.................****=...\
-    words      a 123. .............................";
+// answer, a another, w yes or no, . nothing); up to eight operands (t a tile of the board, p a tile, e TILE:ENDPOINT, s the same on
+// the board, a TILE:ADDRESS on the board, b bytes, c how many bytes, 1 2 3 words, n an answer's name, g the pages of the next tile,
+// h the same or nothing at the line's end); and for each field whether it must be given (*), may be (=) or has no place there (.),
+// in the order of the fields' numbers above.
+const SHAPES: [u8; 1428] = *b"\
+    board      . ........ **...........................\
+    activity   . t....... ..*..........................\
+    endpoint   . e....... .............................\
+    invalidate a e....... .............................\
+    bytes      . ab...... .............................\
+    IDLE       c e....... .......................==..==\
+    SEND       c e....... .......................==..==\
+    REPLY      c e....... .......................==..==\
+    READ       c e....... .......................==..==\
+    WRITE      c e....... .......................==..==\
+    FETCH      c e....... .......................==..==\
+    ACK_MSG    c e....... .......................==..==\
+    COMMAND    c e....... .......................==.*==\
+    XCHG_ACT   c p....... ...........................*.\
+    PRIVILEGED c p....... ..........................*==\
+    respond    a p....... .............................\
+    wiring     w ........ .............................\
+    expect     . n....... ............................=\
+    show       . s....... .............................\
+    dump       . ac...... .............................\
+    waiting    . t....... .............................\
+    sheet      . ........ .............................\
+    drawing    . ........ .............................\
+    send       a ........ ...******====................\
+    receive    a ........ ...*.........****====........\
+    memory     a ........ ...*.................****=...\
+    words      a 123..... .............................\
+    pages      . ghhhhhhh .............................";
 
 const ANY: u64 = 0xFFFF_FFFF_FFFF_FFFF;
 
@@ -167,13 +174,17 @@ pub fn answers(form: usize) -> u8 {
 
 // Operand `j` of a statement, from 0.
 pub fn operand(form: usize, j: usize) -> u8 {
-    if j < 4 { shape(form, 13 + j) } else { b'.' }
+    if j < OPERANDS {
+        shape(form, 13 + j)
+    } else {
+        b'.'
+    }
 }
 
 // Whether a statement must, may or cannot have a field.
 pub fn mark(form: usize, field: usize) -> u8 {
     if field < FIELDS {
-        shape(form, 18 + field)
+        shape(form, 22 + field)
     } else {
         b'.'
     }

@@ -58,13 +58,17 @@ pub const NOT_TWICE: usize = 26;
 
 pub const LINE_END: usize = 27;
 
+pub const PAGES: usize = 28;
+
+pub const BOARD_FORM: usize = 29;
+
 pub const WIDTH: usize = 50;
 
-const ROWS: usize = 28;
+const ROWS: usize = 30;
 
 // A row ends with a bar. In it # is the detail itself; @ is the name of the field that the detail is, and & its largest value;
 // % is the names of the fields of the statement that the detail is.
-const WANTS: [u8; 1400] = *b"\
+const WANTS: [u8; 1500] = *b"\
     a statement|                                      \
     board, before any other statement|                \
     board only once|                                  \
@@ -92,7 +96,9 @@ const WANTS: [u8; 1400] = *b"\
     @, a multiple of 4096 from 4096 to 65536|         \
     field @, which must be given|                     \
     a field that was not given already|               \
-    the line's end|                                   ";
+    the line's end|                                   \
+    a tile's pages, a number from 1 to #|             \
+    tiles and memory, or pages|                       ";
 
 // Byte `j` of a row, a bar past its end.
 pub fn want_byte(want: usize, j: usize) -> u8 {

@@ -7,3 +7,4 @@ pub mod Kept
 pub mod Demand1
 pub mod Numbers
 pub mod Session
+pub mod Equal

@@ -3,3 +3,4 @@ pub mod Kept
 pub mod Demand1
 pub mod Numbers
 pub mod Session
+pub mod Equal

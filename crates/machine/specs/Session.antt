@@ -1,4 +1,4 @@
--- Document 01, the session program: two tiles, M 4096, activity 5 everywhere, other fields 0. Nine commands, and for each a line
+-- Document 01, the session program: two tiles, M 4096 (one page each), activity 5 everywhere, other fields 0. Nine commands, and for each a line
 -- of five numbers: step, answer, ARG_1, cur_crd of tile 0's endpoint 4, occupied of tile 1's endpoint 7.
 -- The lines say nothing of bytes and of sharing records, so the commands are given none: nothing waits, and the activity is 5.
 use Prim.Native.Nat.{ℕ, _+_}
@@ -6,6 +6,7 @@ use mathlib.Core.Bool.{false}
 use mathlib.Core.List.{List, [], _∷_}
 use mathlib.Core.Path.{_≡_}
 use Rattle.answers.specs.Answers.{numberOf}
+use Rattle.board.specs.Lent.{boardOf}
 use Rattle.board.specs.declared.Board.{Board}
 use Rattle.endpoint.specs.Kinds.{sendOf, receiveOf}
 use Rattle.endpoint.specs.declared.Endpoint.the-variants.{Invalid, Send, Receive}
@@ -17,7 +18,7 @@ use Rattle.machine.specs.Machine.{Opcode, opSend, opReply, opFetch, opAc
 use Rattle.machine.specs.Kept.{after}
 
 abbrev pub sessionBoard : Board
-sessionBoard = record { tiles = 2; memory = 4096 }
+sessionBoard = boardOf 2 (1 ∷ 1 ∷ [])
 
 -- tile 0: endpoint 4 sends to tile 1 endpoint 7, endpoint 6 receives; tile 1: endpoint 7 receives
 abbrev pub sessionTable : Table

@@ -2,6 +2,7 @@
 -- 2^slots 12; the endpoint at rpl_eps + idx not SEND 2; its reply clear 5; its crd_ep neither 65535 nor below 64 18; then 19, 9, 23,
 -- page rule, local 14 as in SEND with that endpoint. After delivery that endpoint becomes INVALID and the receive record read at
 -- the start, with idx cleared in both masks, is written back. A reply that came into the same endpoint is thereby lost, as printed.
+-- With T-01 the delivery is counted or queued first, the lost one too; then a slot that was unread takes one from the count.
 -- Mind: 8 and 17 come before 4.
 use Prim.Native.Nat.{ℕ, _+_}
 use mathlib.Core.Bool.{Bool, true, false, not, _&&_}

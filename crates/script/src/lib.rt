@@ -3,6 +3,7 @@
 mod fields;
 mod operands;
 
+use board::Board;
 use language::names;
 use language::names::Found;
 use language::shapes;
@@ -34,8 +35,7 @@ enum Read {
 // What the lines before a line said of it: the board, with no tile before it is known; whether `board` was read; and what the
 // statement right before answers, as in `shapes`, or ? after a mistake, where nothing is known.
 pub struct Context {
-    pub tiles: u64,
-    pub memory: u64,
+    pub board: Board,
     pub board_read: bool,
     pub before: u8,
 }
@@ -43,45 +43,58 @@ pub struct Context {
 // Before the first line.
 pub fn at_start() -> Context {
     Context {
-        tiles: 0,
-        memory: 0,
+        board: Board { tiles: 0, pages: 0 },
         board_read: false,
+        before: b'.',
+    }
+}
+
+// The same number of pages for each tile, in the bytes of a word. The remainder changes no memory that a script may give.
+fn alike(memory: u64) -> u64 {
+    memory / 4096 % 256 * 0x0101_0101_0101_0101
+}
+
+// After a `board`.
+fn after_board(tiles: u64, pages: u64) -> Context {
+    Context {
+        board: Board { tiles, pages },
+        board_read: true,
         before: b'.',
     }
 }
 
 // After a statement.
 pub fn after(c: Context, form: usize, values: &[u64; 40]) -> Context {
-    if form == names::BOARD {
-        return Context {
-            tiles: values[shapes::TILES],
-            memory: values[shapes::MEMORY],
-            board_read: true,
-            before: b'.',
-        };
-    }
-    Context {
-        tiles: c.tiles,
-        memory: c.memory,
-        board_read: c.board_read,
-        before: shapes::answers(form),
+    match form {
+        names::BOARD => after_board(values[shapes::TILES], alike(values[shapes::MEMORY])),
+        names::PAGES => after_board(values[shapes::TILES], values[shapes::PAGES]),
+        _ => {
+            let board = c.board;
+            Context {
+                board,
+                board_read: c.board_read,
+                before: shapes::answers(form),
+            }
+        }
     }
 }
 
 // After a mistake. What follows is checked as if it had been right, so that one mistake is told once: where no board was
 // read, on the largest.
 pub fn after_mistake(c: Context) -> Context {
-    if c.tiles == 0 {
+    let board = c.board;
+    if board.tiles == 0 {
         return Context {
-            tiles: 8,
-            memory: 65536,
+            board: Board {
+                tiles: 8,
+                pages: alike(65536),
+            },
             board_read: false,
             before: b'?',
         };
     }
     Context {
-        tiles: c.tiles,
-        memory: c.memory,
+        board,
         board_read: c.board_read,
         before: b'?',
     }
@@ -102,7 +115,22 @@ fn clear(values: &mut [u64; 40], given: &mut [bool; 29]) {
     *given = [false; 29];
 }
 
-// The rest of an `endpoint` from `at` on: its kind, which makes a statement of its own, and what that is made of.
+// The rest of a statement from `at` on: its operands, then its fields.
+fn rest(
+    line: &[u8],
+    at: usize,
+    form: usize,
+    c: Context,
+    values: &mut [u64; 40],
+    given: &mut [bool; 29],
+) -> Line {
+    match operands::read(line, at, form, c, values) {
+        Read::Upto(end) => fields::read(line, end, form, c, values, given),
+        Read::Wrong(m) => Line::Wrong(m),
+    }
+}
+
+// The rest of an `endpoint`: its kind, which makes a statement of its own, and what that is made of.
 fn endpoint(
     line: &[u8],
     at: usize,
@@ -111,12 +139,37 @@ fn endpoint(
     given: &mut [bool; 29],
 ) -> Line {
     let t = lexer::next(line, at);
-    match names::find(line, t.start, t.end, names::KINDS, names::FIELDS) {
-        Found::At(form) => match operands::read(line, t.end, form, c, values) {
-            Read::Upto(end) => fields::read(line, end, form, c, values, given),
-            Read::Wrong(m) => Line::Wrong(m),
-        },
+    match names::find(line, t.start, t.end, names::KINDS, names::PAGES) {
+        Found::At(form) => rest(line, t.end, form, c, values, given),
         Found::Nothing => Line::Wrong(wrong(t, wants::KIND, 0)),
+    }
+}
+
+// A mistake right after `board` may be one of either form, so both are told.
+fn of_either_form(t: Token, read: Line) -> Line {
+    match read {
+        Line::Wrong(m) => {
+            if m.start == t.start {
+                return Line::Wrong(wrong(t, wants::BOARD_FORM, 0));
+            }
+            Line::Wrong(m)
+        }
+        _ => read,
+    }
+}
+
+// The rest of a `board`: `pages`, which makes a statement of its own, or the fields.
+fn board(
+    line: &[u8],
+    at: usize,
+    c: Context,
+    values: &mut [u64; 40],
+    given: &mut [bool; 29],
+) -> Line {
+    let t = lexer::next(line, at);
+    match names::find(line, t.start, t.end, names::PAGES, names::FIELDS) {
+        Found::At(form) => rest(line, t.end, form, c, values, given),
+        Found::Nothing => of_either_form(t, rest(line, at, names::BOARD, c, values, given)),
     }
 }
 
@@ -129,14 +182,13 @@ fn statement(
     values: &mut [u64; 40],
     given: &mut [bool; 29],
 ) -> Line {
-    match operands::read(line, t.end, form, c, values) {
-        Read::Wrong(m) => Line::Wrong(m),
-        Read::Upto(end) => {
-            if form == names::ENDPOINT {
-                return endpoint(line, end, c, values, given);
-            }
-            fields::read(line, end, form, c, values, given)
-        }
+    match form {
+        names::BOARD => board(line, t.end, c, values, given),
+        names::ENDPOINT => match operands::read(line, t.end, form, c, values) {
+            Read::Upto(end) => endpoint(line, end, c, values, given),
+            Read::Wrong(m) => Line::Wrong(m),
+        },
+        _ => rest(line, t.end, form, c, values, given),
     }
 }
 
@@ -155,7 +207,7 @@ fn in_its_place(
         }
         return statement(line, t, form, c, values, given);
     }
-    if c.tiles == 0 {
+    if c.board.tiles == 0 {
         return Line::Wrong(wrong(t, wants::BOARD_FIRST, 0));
     }
     if form == names::EXPECT && c.before == b'.' {

@@ -2,6 +2,7 @@
 use super::Context;
 use super::Mistake;
 use super::Read;
+use board::Board;
 use language::names;
 use language::names::Found;
 use language::shapes;
@@ -82,22 +83,52 @@ fn colon(line: &[u8], at: usize) -> Read {
     }
 }
 
-// TILE:PLACE, up to the largest of each.
-fn pair(
-    line: &[u8],
-    at: usize,
-    tile_most: u64,
-    most: u64,
-    want: usize,
-    values: &mut [u64; 40],
-) -> Read {
-    match alone(line, at, 0, tile_most, wants::TILE, values, shapes::OF_TILE) {
+// The tile before a place, and the colon between them.
+fn tile_of(line: &[u8], at: usize, most: u64, values: &mut [u64; 40]) -> Read {
+    match alone(line, at, 0, most, wants::TILE, values, shapes::OF_TILE) {
         Read::Wrong(m) => Read::Wrong(m),
-        Read::Upto(a) => match colon(line, a) {
-            Read::Wrong(m) => Read::Wrong(m),
-            Read::Upto(b) => alone(line, b, 0, most, want, values, shapes::PLACE),
-        },
+        Read::Upto(end) => colon(line, end),
     }
+}
+
+// TILE:ENDPOINT, up to the largest of each.
+fn endpoint(line: &[u8], at: usize, tile_most: u64, most: u64, values: &mut [u64; 40]) -> Read {
+    match tile_of(line, at, tile_most, values) {
+        Read::Wrong(m) => Read::Wrong(m),
+        Read::Upto(end) => alone(line, end, 0, most, wants::ENDPOINT, values, shapes::PLACE),
+    }
+}
+
+// TILE:ADDRESS, in the memory of that tile.
+fn address(line: &[u8], at: usize, b: Board, values: &mut [u64; 40]) -> Read {
+    match tile_of(line, at, last(b.tiles), values) {
+        Read::Wrong(m) => Read::Wrong(m),
+        Read::Upto(end) => {
+            let most = last(board::size(b, values[shapes::OF_TILE]));
+            alone(line, end, 0, most, wants::ADDRESS, values, shapes::PLACE)
+        }
+    }
+}
+
+// The pages of the next tile. No more than 8 tiles come, so the remainder changes no number.
+fn pages(line: &[u8], at: usize, values: &mut [u64; 40]) -> Read {
+    match number(line, at, 1, 16, wants::PAGES) {
+        Value::Wrong(m) => Read::Wrong(m),
+        Value::Is(count, end) => {
+            let tile = values[shapes::TILES] % 8;
+            values[shapes::TILES] = tile + 1;
+            values[shapes::PAGES] = values[shapes::PAGES] | (count << (8 * tile));
+            Read::Upto(end)
+        }
+    }
+}
+
+// The same, or nothing where the line ends.
+fn more_pages(line: &[u8], at: usize, values: &mut [u64; 40]) -> Read {
+    if lexer::next(line, at).end <= at {
+        return Read::Upto(at);
+    }
+    pages(line, at, values)
 }
 
 // The name of an answer, of the kind that the statement before gives.
@@ -189,18 +220,21 @@ fn bytes(line: &[u8], from: usize, room: u64, values: &mut [u64; 40]) -> Read {
 
 // The operand that a letter of the statement's row names.
 fn operand(line: &[u8], at: usize, letter: u8, c: Context, values: &mut [u64; 40]) -> Read {
-    let tile = last(c.tiles);
-    let address = last(c.memory);
-    let room = span(values[shapes::PLACE], c.memory);
+    let b = c.board;
+    let tile = last(b.tiles);
+    let size = board::size(b, values[shapes::OF_TILE]);
+    let room = span(values[shapes::PLACE], size);
     match letter {
         b't' => alone(line, at, 0, tile, wants::TILE, values, shapes::OF_TILE),
         b'p' => alone(line, at, 0, ANY, wants::TILE, values, shapes::OF_TILE),
-        b'e' => pair(line, at, ANY, ANY, wants::ENDPOINT, values),
-        b's' => pair(line, at, tile, 63, wants::ENDPOINT, values),
-        b'a' => pair(line, at, tile, address, wants::ADDRESS, values),
+        b'e' => endpoint(line, at, ANY, ANY, values),
+        b's' => endpoint(line, at, tile, 63, values),
+        b'a' => address(line, at, b, values),
         b'b' => bytes(line, at, room, values),
         b'c' => alone(line, at, 1, room, wants::COUNT, values, shapes::COUNT),
         b'n' => answer(line, at, c.before, values),
+        b'g' => pages(line, at, values),
+        b'h' => more_pages(line, at, values),
         b'1' => alone(line, at, 0, ANY, wants::WORD, values, shapes::FIRST),
         b'2' => alone(line, at, 0, ANY, wants::WORD, values, shapes::SECOND),
         _ => alone(line, at, 0, ANY, wants::WORD, values, shapes::THIRD),
@@ -211,7 +245,7 @@ fn operand(line: &[u8], at: usize, letter: u8, c: Context, values: &mut [u64; 40
 pub fn read(line: &[u8], from: usize, form: usize, c: Context, values: &mut [u64; 40]) -> Read {
     let mut at = from;
     let mut j: usize = 0;
-    while j < 4 {
+    while j < shapes::OPERANDS {
         let letter = shapes::operand(form, j);
         if letter == b'.' {
             return Read::Upto(at);

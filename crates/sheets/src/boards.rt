@@ -69,3 +69,19 @@ pub fn crowd(words: &mut Table) {
         ep = ep + 1;
     }
 }
+
+// A gate of 4,096 bytes, a vault of 65,536 and a logbook of 16,384: ranges that end with the memory, ranges that go a byte past it,
+// and a buffer at the vault's end.
+pub fn unequal(words: &mut Table) {
+    memory(words, 0, 9, [5, 1, 1, 65520, 16, 0]);
+    memory(words, 0, 10, [5, 1, 1, 65521, 16, 0]);
+    memory(words, 1, 9, [6, 2, 0, 4080, 16, 0]);
+    memory(words, 1, 10, [6, 2, 0, 4081, 16, 0]);
+    memory(words, 1, 11, [6, 3, 2, 0, 16384, 0]);
+    receive(words, 1, 7, [6, 0, 8, 65280, 65535, 0, 0]);
+}
+
+// The same buffer on the gate.
+pub fn too_large(words: &mut Table) {
+    receive(words, 0, 7, [5, 0, 8, 65280, 65535, 0, 0]);
+}

@@ -9,7 +9,6 @@ use Rattle.numbers.specs.Choice.{_gives_else_}
 use Rattle.answers.specs.Answers.{codeOf, numberOf}
 use Rattle.answers.specs.declared.Error.the-variants.{BadMachine, BadConfig}
 use Rattle.board.specs.Board.{memoryAllowed}
-use Rattle.board.specs.declared.Board.{Board}
 use Rattle.endpoint.specs.Turning.{unpackOf, packOf}
 use Rattle.endpoint.specs.declared.Words.{Words}
 use Rattle.endpoint.specs.declared.Unpacked.{Unpacked}
@@ -22,9 +21,6 @@ use Rattle.wiring.specs.declared.Wiring.{Wiring}
 use Rattle.tcu.specs.Fields.{fieldValues, Named, names, nothing, endpointOf}
 
 -- ---- what the caller passes, as the library takes it
-abbrev pub board : (tiles memory : ℕ) → Board
-board tiles memory = record { tiles = tiles; memory = memory }
-
 abbrev pub registers : (arg0 addr size arg1 : ℕ) → Registers
 registers arg0 addr size arg1 = record { arg0 = arg0; addr = addr; size = size; arg1 = arg1 }
 

@@ -1,12 +1,12 @@
 // The C interface (`include/tcu.h`). Each function asks nothing of its caller, and promises what the function behind it does, with
 // document 01's number for the answer (`specs/Interface.antt`).
 ghost use mathlib.Core.Path.{_≡_};
+ghost use Rattle.board.specs.Lent.{boardOf};
 ghost use Rattle.command.specs.Outcome.{carried};
 ghost use Rattle.machine.specs.Machine.{commandOf, configureOf, invalidateOf, privilegedOf, respondOf, waitsOf, leftBy};
 ghost use Rattle.wiring.specs.Wiring.{wiringOf};
-ghost use Rattle.tcu.specs.Interface.{board, registers, three, returned, inC, wiringInC, turned, waitingInC, unpackInC, packInC};
+ghost use Rattle.tcu.specs.Interface.{registers, three, returned, inC, wiringInC, turned, waitingInC, unpackInC, packInC};
 use answers::Error;
-use board::Board;
 use command::Registers;
 use endpoint::Packed;
 use endpoint::Unpacked;
@@ -20,7 +20,7 @@ mod lists;
 #[no_mangle]
 pub extern "C" fn tcu_command(
     tiles: u64,
-    memory: u64,
+    pages: &[u8],
     words: &mut [u64],
     sharing: &mut [u64],
     mem: &mut [u8],
@@ -32,11 +32,12 @@ pub extern "C" fn tcu_command(
     data_size: u64,
     arg1: &mut u64,
 ) -> u32
-    ensures { λ r. ⌜ returned r (now (arg1 .exit)) (now (words .exit)) (now (sharing .exit)) (now (mem .exit)) ≡ inC (leftBy (now (sharing .entry)) tile (carried (now (arg1 .entry)) (now (words .entry)) (now (mem .entry)) (commandOf (board tiles memory) (now (words .entry)) (now (sharing .entry)) (now (mem .entry)) tile opcode endpoint (registers arg0 «data_addr» «data_size» (now (arg1 .entry)))))) ⌝ }
+    ensures { λ r. ⌜ returned r (now (arg1 .exit)) (now (words .exit)) (now (sharing .exit)) (now (mem .exit)) ≡ inC (leftBy (now (sharing .entry)) tile (carried (now (arg1 .entry)) (now (words .entry)) (now (mem .entry)) (commandOf (boardOf tiles (now (pages .entry))) (now (words .entry)) (now (sharing .entry)) (now (mem .entry)) tile opcode endpoint (registers arg0 «data_addr» «data_size» (now (arg1 .entry)))))) ⌝ }
 {
     let given = *arg1;
+    let b = board::of(tiles, pages);
     let done = machine::carry_out(
-        Board { tiles, memory },
+        b,
         words,
         sharing,
         mem,
@@ -59,7 +60,7 @@ pub extern "C" fn tcu_command(
 #[no_mangle]
 pub extern "C" fn tcu_configure(
     tiles: u64,
-    memory: u64,
+    pages: &[u8],
     words: &mut [u64],
     sharing: &[u64],
     mem: &[u8],
@@ -69,10 +70,11 @@ pub extern "C" fn tcu_configure(
     second: u64,
     third: u64,
 ) -> u32
-    ensures { λ r. ⌜ returned r 0 (now (words .exit)) (now (sharing .entry)) (now (mem .entry)) ≡ inC (leftBy (now (sharing .entry)) tile (carried 0 (now (words .entry)) (now (mem .entry)) (configureOf (board tiles memory) (now (words .entry)) (now (sharing .entry)) (now (mem .entry)) tile endpoint (three first second third)))) ⌝ }
+    ensures { λ r. ⌜ returned r 0 (now (words .exit)) (now (sharing .entry)) (now (mem .entry)) ≡ inC (leftBy (now (sharing .entry)) tile (carried 0 (now (words .entry)) (now (mem .entry)) (configureOf (boardOf tiles (now (pages .entry))) (now (words .entry)) (now (sharing .entry)) (now (mem .entry)) tile endpoint (three first second third)))) ⌝ }
 {
+    let b = board::of(tiles, pages);
     let answer = machine::configure(
-        Board { tiles, memory },
+        b,
         words,
         sharing,
         mem,
@@ -91,16 +93,17 @@ pub extern "C" fn tcu_configure(
 #[no_mangle]
 pub extern "C" fn tcu_invalidate(
     tiles: u64,
-    memory: u64,
+    pages: &[u8],
     words: &mut [u64],
     sharing: &[u64],
     mem: &[u8],
     tile: u64,
     endpoint: u64,
 ) -> u32
-    ensures { λ r. ⌜ returned r 0 (now (words .exit)) (now (sharing .entry)) (now (mem .entry)) ≡ inC (leftBy (now (sharing .entry)) tile (carried 0 (now (words .entry)) (now (mem .entry)) (invalidateOf (board tiles memory) (now (words .entry)) (now (sharing .entry)) (now (mem .entry)) tile endpoint))) ⌝ }
+    ensures { λ r. ⌜ returned r 0 (now (words .exit)) (now (sharing .entry)) (now (mem .entry)) ≡ inC (leftBy (now (sharing .entry)) tile (carried 0 (now (words .entry)) (now (mem .entry)) (invalidateOf (boardOf tiles (now (pages .entry))) (now (words .entry)) (now (sharing .entry)) (now (mem .entry)) tile endpoint))) ⌝ }
 {
-    let answer = machine::invalidate(Board { tiles, memory }, words, sharing, mem, tile, endpoint);
+    let b = board::of(tiles, pages);
+    let answer = machine::invalidate(b, words, sharing, mem, tile, endpoint);
     answers::number(answer)
 }
 
@@ -108,7 +111,7 @@ pub extern "C" fn tcu_invalidate(
 #[no_mangle]
 pub extern "C" fn tcu_privileged(
     tiles: u64,
-    memory: u64,
+    pages: &[u8],
     words: &[u64],
     sharing: &mut [u64],
     mem: &[u8],
@@ -117,19 +120,11 @@ pub extern "C" fn tcu_privileged(
     arg0: u64,
     arg1: &mut u64,
 ) -> u32
-    ensures { λ r. ⌜ returned r (now (arg1 .exit)) (now (words .entry)) (now (sharing .exit)) (now (mem .entry)) ≡ inC (leftBy (now (sharing .entry)) tile (carried (now (arg1 .entry)) (now (words .entry)) (now (mem .entry)) (privilegedOf (board tiles memory) (now (words .entry)) (now (sharing .entry)) (now (mem .entry)) tile opcode arg0 (now (arg1 .entry))))) ⌝ }
+    ensures { λ r. ⌜ returned r (now (arg1 .exit)) (now (words .entry)) (now (sharing .exit)) (now (mem .entry)) ≡ inC (leftBy (now (sharing .entry)) tile (carried (now (arg1 .entry)) (now (words .entry)) (now (mem .entry)) (privilegedOf (boardOf tiles (now (pages .entry))) (now (words .entry)) (now (sharing .entry)) (now (mem .entry)) tile opcode arg0 (now (arg1 .entry))))) ⌝ }
 {
     let given = *arg1;
-    let handed = machine::privileged(
-        Board { tiles, memory },
-        words,
-        sharing,
-        mem,
-        tile,
-        opcode,
-        arg0,
-        given,
-    );
+    let b = board::of(tiles, pages);
+    let handed = machine::privileged(b, words, sharing, mem, tile, opcode, arg0, given);
     *arg1 = handed.arg1;
     let answer = handed.answer;
     answers::number(answer)
@@ -139,15 +134,16 @@ pub extern "C" fn tcu_privileged(
 #[no_mangle]
 pub extern "C" fn tcu_respond(
     tiles: u64,
-    memory: u64,
+    pages: &[u8],
     words: &[u64],
     sharing: &mut [u64],
     mem: &[u8],
     tile: u64,
 ) -> u32
-    ensures { λ r. ⌜ returned r 0 (now (words .entry)) (now (sharing .exit)) (now (mem .entry)) ≡ inC (leftBy (now (sharing .entry)) tile (carried 0 (now (words .entry)) (now (mem .entry)) (respondOf (board tiles memory) (now (words .entry)) (now (sharing .entry)) (now (mem .entry)) tile))) ⌝ }
+    ensures { λ r. ⌜ returned r 0 (now (words .entry)) (now (sharing .exit)) (now (mem .entry)) ≡ inC (leftBy (now (sharing .entry)) tile (carried 0 (now (words .entry)) (now (mem .entry)) (respondOf (boardOf tiles (now (pages .entry))) (now (words .entry)) (now (sharing .entry)) (now (mem .entry)) tile))) ⌝ }
 {
-    let done = machine::respond(Board { tiles, memory }, words, sharing, mem, tile);
+    let b = board::of(tiles, pages);
+    let done = machine::respond(b, words, sharing, mem, tile);
     let answer = done.answer;
     answers::number(answer)
 }
@@ -156,19 +152,20 @@ pub extern "C" fn tcu_respond(
 #[no_mangle]
 pub extern "C" fn tcu_waiting(
     tiles: u64,
-    memory: u64,
+    pages: &[u8],
     words: &[u64],
     sharing: &[u64],
     mem: &[u8],
     tile: u64,
     waiting: &mut [u64],
 ) -> u32
-    ensures { λ r. ⌜ turned r (now (waiting .exit)) ≡ waitingInC (now (waiting .entry)) (waitsOf (board tiles memory) (now (words .entry)) (now (sharing .entry)) (now (mem .entry)) tile) ⌝ }
+    ensures { λ r. ⌜ turned r (now (waiting .exit)) ≡ waitingInC (now (waiting .entry)) (waitsOf (boardOf tiles (now (pages .entry))) (now (words .entry)) (now (sharing .entry)) (now (mem .entry)) tile) ⌝ }
 {
     if waiting.len() != 3 {
         return answers::code(Error::BadMachine);
     }
-    let found = machine::waiting_at(Board { tiles, memory }, words, sharing, mem, tile);
+    let b = board::of(tiles, pages);
+    let found = machine::waiting_at(b, words, sharing, mem, tile);
     match found {
         Waits::So(w) => {
             let three = Words {
@@ -187,14 +184,15 @@ pub extern "C" fn tcu_waiting(
 #[no_mangle]
 pub extern "C" fn tcu_wiring(
     tiles: u64,
-    memory: u64,
+    pages: &[u8],
     words: &[u64],
     sharing: &[u64],
     mem: &[u8],
 ) -> u32
-    ensures { λ r. ⌜ r ≡ wiringInC (wiringOf (board tiles memory) (now (words .entry)) (now (sharing .entry)) (now (mem .entry))) ⌝ }
+    ensures { λ r. ⌜ r ≡ wiringInC (wiringOf (boardOf tiles (now (pages .entry))) (now (words .entry)) (now (sharing .entry)) (now (mem .entry))) ⌝ }
 {
-    let found = wiring::check_wiring(Board { tiles, memory }, words, sharing, mem);
+    let b = board::of(tiles, pages);
+    let found = wiring::check_wiring(b, words, sharing, mem);
     match found {
         Wiring::Yes => 1,
         Wiring::No => 0,

@@ -70,7 +70,7 @@ const LAST: Place = Place {
 // A board for which not enough is lent.
 const THREE_TILES: Board = Board {
     tiles: 3,
-    memory: 8192,
+    pages: 0x02_02_02,
 };
 
 // The words of P1, a send endpoint.

@@ -25,9 +25,10 @@ pub type Sharing = [u64; 134];
 // The bytes that the host lends, of both tiles.
 pub type Memory = [u8; 16384];
 
+// Two tiles, with two pages each.
 pub const BOARD: Board = Board {
     tiles: 2,
-    memory: 8192,
+    pages: 0x02_02,
 };
 
 // The opcodes.
@@ -186,14 +187,19 @@ pub fn run(what: &[u8], should: u64, s: Stage, c: Command) {
     report_answer(what, answer, should);
 }
 
-// The host's refusals, which come before all others: M is not what is lent, the table is not good, and the acting tile does not
+// The host's refusals, which come before all others: a tile has fewer pages than are lent, the table is not good, and the acting tile does not
 // exist.
 pub fn host_refusals(s: Stage, c: Command) {
     let board = Board {
         tiles: 2,
-        memory: 4096,
+        pages: 0x01_02,
     };
-    run(b"M is 4096, 8192 is lent", 100, s, Command { board, ..c });
+    run(
+        b"tile 1 has one page, two are lent",
+        100,
+        s,
+        Command { board, ..c },
+    );
     run(b"an endpoint is of type 4", 100, Stage { stray: 4, ..s }, c);
     run(b"the acting tile is 2", 101, s, Command { tile: 2, ..c });
 }

@@ -31,7 +31,7 @@ fn decimal(n: u64) {
 fn session_board() -> Board {
     Board {
         tiles: 2,
-        memory: 4096,
+        pages: 0x01_01,
     }
 }
 
@@ -163,7 +163,7 @@ fn configured(a: Answer) {
 fn put(words: &mut [u64; 384], sharing: &[u64; 134], mem: &[u8; 8192], p: Placed) {
     let b = session_board();
     let e = p.endpoint;
-    match endpoint::pack(b.memory, e) {
+    match endpoint::pack(board::size(b, p.tile), e) {
         Packed::Words(w) => configured(machine::configure(b, words, sharing, mem, p.tile, p.ep, w)),
         Packed::Refused(e) => configured(Answer::Refused(e)),
     }

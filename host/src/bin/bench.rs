@@ -12,7 +12,8 @@ mod library {
     extern "C" {
         fn tcu_command(
             tiles: u64,
-            memory: u64,
+            pages: *const u8,
+            pages_len: usize,
             words: *mut u64,
             words_len: usize,
             sharing: *mut u64,
@@ -31,14 +32,15 @@ mod library {
 
     /// One command by the library: the answer, and ARG_1 afterwards.
     #[inline(never)]
-    pub fn command(tiles: u64, memory: u64, lent: &mut State, c: &Command) -> (u32, u64) {
+    pub fn command(pages: &[u8], lent: &mut State, c: &Command) -> (u32, u64) {
         let mut arg1 = c.arg1;
         // SAFETY: each pointer comes from a slice and goes with that slice's
         // length; the slices are apart and are lent for this call only.
         let answer = unsafe {
             tcu_command(
-                tiles,
-                memory,
+                pages.len() as u64,
+                pages.as_ptr(),
+                pages.len(),
                 lent.words.as_mut_ptr(),
                 lent.words.len(),
                 lent.sharing.as_mut_ptr(),
@@ -64,11 +66,13 @@ mod measure {
     use std::time::{Duration, Instant};
     use tcu_host::call::State;
     use tcu_host::model::{opcode, Command, Endpoint, Machine, Memory, Receive, Send};
-    use tcu_host::model::{ENDPOINTS, NO_ENDPOINT, WORDS_PER_TILE};
+    use tcu_host::model::{ENDPOINTS, NO_ENDPOINT, PAGE, WORDS_PER_TILE};
     use tcu_host::sharing::{self, Request, CUR_ACT, SHARING_PER_TILE};
     use tcu_host::wrong::Wrong;
 
-    const MEMORY: u64 = 8192;
+    /// Each tile has two pages.
+    const PAGES: u8 = 2;
+    const MEMORY: u64 = PAGES as u64 * PAGE;
     const ACT: u16 = 5;
     const PAYLOAD: u64 = 64;
     /// The requests that wait at each tile.
@@ -77,13 +81,13 @@ mod measure {
     /// About how long one side runs before the other has its turn.
     const TURN: Duration = Duration::from_millis(2);
 
-    type Run = fn(u64, u64, &mut State, &Command) -> (u32, u64);
+    type Run = fn(&[u8], &mut State, &Command) -> (u32, u64);
 
     #[inline(never)]
-    fn by_model(tiles: u64, memory: u64, lent: &mut State, c: &Command) -> (u32, u64) {
+    fn by_model(pages: &[u8], lent: &mut State, c: &Command) -> (u32, u64) {
         let mut machine = Machine {
-            tiles,
-            memory,
+            tiles: pages.len() as u64,
+            pages,
             words: &mut lent.words,
             sharing: &mut lent.sharing,
             mem: &mut lent.mem,
@@ -97,20 +101,22 @@ mod measure {
     struct Side {
         run: Run,
         tiles: u64,
+        pages: Vec<u8>,
         lent: State,
         times: Vec<Duration>,
     }
 
     impl Side {
         fn new(run: Run, tiles: u64) -> Side {
-            Side { run, tiles, lent: wired(tiles), times: Vec::new() }
+            let pages = vec![PAGES; tiles as usize];
+            Side { run, tiles, pages, lent: wired(tiles), times: Vec::new() }
         }
 
         /// One command, which must be accepted; ARG_1 afterwards.
         fn command(&mut self, tile: u64, opcode: u64, endpoint: u64, arg0: u64, size: u64) -> u64 {
             let c =
                 Command { tile, opcode, endpoint, arg0, data_addr: 0, data_size: size, arg1: 0 };
-            let (answer, arg1) = (self.run)(self.tiles, MEMORY, &mut self.lent, &c);
+            let (answer, arg1) = (self.run)(&self.pages, &mut self.lent, &c);
             assert_eq!(answer, 0, "opcode {} was refused", opcode);
             arg1
         }

@@ -14,12 +14,12 @@ returns c = declined _ _ _ _ (ne-eqb _ _ (c .before .if1 .taken)) (rw (c .code .
 returns-2 : tie.Need-returns-2
 unfolding waitingInC waitsInC
 returns-2 c =
-    let long = c .before .before .before .before .before .before .before .before .before .before .if1 .left in
-    chosen _ _ _ _ (eq-eqb _ _ long) (rw (← c .before .before .before .before .before .before .before .before .before .waiting-at .ensures, c .before .before .before .before .before .before .before .found .given .1, c .before .before .write-nth .ensures, put-three _ _ long))
+    let long = c .before .before .before .before .before .before .before .before .before .before .before .if1 .left in
+    chosen _ _ _ _ (eq-eqb _ _ long) (rw (← c .before .before .before .before .before .before .before .before .before .before .of .ensures, ← c .before .before .before .before .before .before .before .before .before .waiting-at .ensures, c .before .before .before .before .before .before .before .found .given .1, c .before .before .write-nth .ensures, put-three _ _ long))
 
 returns-3 : tie.Need-returns-3
 unfolding waitingInC waitsInC
-returns-3 c = chosen _ _ _ _ (eq-eqb _ _ (c .before .before .before .before .before .if1 .left)) (rw (← c .before .before .before .before .waiting-at .ensures, c .before .before .found2 .given .1, c .code2 .ensures))
+returns-3 c = chosen _ _ _ _ (eq-eqb _ _ (c .before .before .before .before .before .before .if1 .left)) (rw (← c .before .before .before .before .before .of .ensures, ← c .before .before .before .before .waiting-at .ensures, c .before .before .found2 .given .1, c .code2 .ensures))
 
 pub tcu-waiting-spec : {M : Type 1} → statement M
 tcu-waiting-spec =
@@ -27,6 +27,7 @@ tcu-waiting-spec =
     (tie.spec
     (λ c κs. search needs)
     returns
+    (λ c κs. search needs)
     (λ c κs. search needs)
     (λ c. search needs)
     (λ c. search needs)

@@ -6,10 +6,10 @@ use Rattle.script.proofs.operands.read.Statement.{statement}
 use Rattle.script.proofs.operands.read.Tie as tie
 
 abbrev Inv-loop : tie.InvT-loop
-Inv-loop line from form c values₀ at₀ j₀ values at j = j ≤ 4
+Inv-loop line from form c values₀ at₀ j₀ values at j = j ≤ 8
 
 abbrev μ-loop : tie.MeasureT-loop
-μ-loop line from form c values₀ at₀ j₀ values at j = 4 - j
+μ-loop line from form c values₀ at₀ j₀ values at j = 8 - j
 
 loop-holds : tie.Need-loop-holds Inv-loop μ-loop
 loop-holds c = search needs
