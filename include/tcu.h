@@ -170,7 +170,7 @@ enum tcu_field {
 
     TCU_SEND_ACT = 1,      /* 16: the activity that may use it */
     TCU_SEND_CUR_CRD = 2,  /*  6: credits now; 63 is unlimited */
-    TCU_SEND_MAX_CRD = 3,  /*  6: credits at first */
+    TCU_SEND_MAX_CRD = 3,  /*  6: credits at first; a reply adds none beyond them */
     TCU_SEND_MSG_SZ = 4,   /*  6: largest message with header, as a power of 2 */
     TCU_SEND_CRD_EP = 5,   /* 16: reply endpoints: the sender that gets a credit */
     TCU_SEND_REPLY = 6,    /*  1: whether it is a reply endpoint */
@@ -217,6 +217,9 @@ enum tcu_field {
  *   IDLE     does nothing.
  *   SEND     sends a message to the endpoint that a send endpoint aims at.
  *   REPLY    answers a message held in a slot of a receive endpoint, and frees it.
+ *            The sender that the reply endpoint names in crd_ep gets one credit if
+ *            it has fewer than max_crd and at most 61, so a reply never makes its
+ *            credits unlimited. Otherwise it gets none; REPLY still answers 0.
  *   READ     copies from a memory endpoint's region to local memory.
  *   WRITE    copies from local memory to a memory endpoint's region.
  *   FETCH    hands out the next unread message of a receive endpoint.

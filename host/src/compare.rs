@@ -2,6 +2,7 @@
 //! lent word, of the tables and the sharing records, and every lent byte.
 
 use crate::call::{Call, Outcome, State};
+use crate::corners::Seen;
 use crate::coverage::Coverage;
 use crate::generate::{self, Session};
 use crate::wire::{Reply, Runner};
@@ -97,7 +98,9 @@ fn compare(
             }));
         }
         coverage.stack.note(call.action.function(), reply.stack);
-        coverage.count(call, &words_before, &sharing_before, &expected);
+        let (words, sharing) = (&words_before, &sharing_before);
+        let words_after = &expected_state.words;
+        coverage.count(&Seen { call, words, sharing, words_after, outcome: &expected });
     }
     Ok(())
 }

@@ -3,6 +3,7 @@
 //! right number and a wrong end state.
 
 use crate::call::{bytes_of, Action, Call, Outcome, Sizes};
+use crate::credits;
 use crate::model::WORDS_PER_TILE;
 use crate::model::{find_slot, opcode, privileged, Command, Endpoint, Memory, Receive, Send};
 use crate::model::{
@@ -57,10 +58,20 @@ pub const CORNERS: &[&str] = &[
     "SEND: 3 for an arg0 that is right in its low 16 bits",
     "SEND: the largest message, upwards over itself",
     "SEND: the largest message, downwards over itself",
-    "REPLY: credit given",
-    "REPLY: credit makes 62 into 63",
-    "REPLY: credit above max_crd",
-    "REPLY: credit for an unlimited sender",
+    "REPLY: credit added, below max_crd",
+    "REPLY: credit added, 60 of more become 61",
+    "REPLY: credit added, 61 of more become 62",
+    "REPLY: no credit added, at max_crd",
+    "REPLY: no credit added, above max_crd",
+    "REPLY: no credit added, 60 of 60",
+    "REPLY: no credit added, 60 of fewer",
+    "REPLY: no credit added, 61 of 61",
+    "REPLY: no credit added, 61 of fewer",
+    "REPLY: no credit added, 62 of 63",
+    "REPLY: no credit added, 62 of 62",
+    "REPLY: no credit added, 62 of fewer",
+    "REPLY: no credit added, unlimited of 63",
+    "REPLY: no credit added, unlimited of fewer",
     "REPLY: credit place is no send endpoint",
     "REPLY: no credit place",
     "REPLY: into its own endpoint",
@@ -230,11 +241,13 @@ pub const CORNERS: &[&str] = &[
     "wiring: too much promised",
 ];
 
-/// A call with the words and records it was lent and what came back.
+/// A call with the words and records it was lent, the words afterwards and what came
+/// back.
 pub struct Seen<'a> {
     pub call: &'a Call,
     pub words: &'a [u64],
     pub sharing: &'a [u64],
+    pub words_after: &'a [u64],
     pub outcome: &'a Outcome,
 }
 
@@ -292,11 +305,19 @@ impl Seen<'_> {
     }
 
     fn endpoint(&self, tile: u64, id: u64) -> Endpoint {
+        self.endpoint_in(self.words, tile, id)
+    }
+
+    fn endpoint_after(&self, tile: u64, id: u64) -> Endpoint {
+        self.endpoint_in(self.words_after, tile, id)
+    }
+
+    fn endpoint_in(&self, words: &[u64], tile: u64, id: u64) -> Endpoint {
         if tile >= self.sizes().tiles || id >= ENDPOINTS {
             return Endpoint::Invalid;
         }
         let at = (tile * WORDS_PER_TILE + id * 3) as usize;
-        Endpoint::read(&self.words[at..at + 3])
+        Endpoint::read(&words[at..at + 3])
     }
 
     fn own(&self, tile: u64) -> u16 {
@@ -497,9 +518,7 @@ fn visit_reply(seen: &Seen, c: &Command, ep: &Receive, hit: Hit) {
         visit_message(seen, c, &sender, hit);
         if seen.answer() == 0 {
             visit_accepted_reply(seen, c, ep, &sender, hit);
-            let own_credit = (u64::from(sender.tgt_tile), u64::from(sender.crd_ep));
-            let itself = own_credit == (c.tile, reply_id);
-            hit_if(hit, itself, "REPLY: credit for the reply endpoint itself");
+            visit_credit_place(seen, (c.tile, reply_id), &sender, hit);
         }
     }
 }
@@ -511,19 +530,22 @@ fn visit_accepted_reply(seen: &Seen, c: &Command, ep: &Receive, sender: &Send, h
     visit_counts_of_reply(seen, c, ep, sender, hit);
     let target = (u64::from(sender.tgt_tile), u64::from(sender.tgt_ep));
     hit_if(hit, target == (c.tile, c.endpoint), "REPLY: into its own endpoint");
+}
+
+/// Where an accepted REPLY by the reply endpoint at a place brought its credit.
+fn visit_credit_place(seen: &Seen, reply_place: (u64, u64), sender: &Send, hit: Hit) {
     if sender.crd_ep == NO_ENDPOINT {
         hit("REPLY: no credit place");
         return;
     }
-    match seen.endpoint(sender.tgt_tile.into(), sender.crd_ep.into()) {
-        Endpoint::Send(credited) if credited.cur_crd == UNLIMITED => {
-            hit("REPLY: credit for an unlimited sender");
+    let (tile, id) = (u64::from(sender.tgt_tile), u64::from(sender.crd_ep));
+    match seen.endpoint(tile, id) {
+        // It is INVALID afterwards, whatever its credits were.
+        Endpoint::Send(_) if (tile, id) == reply_place => {
+            hit("REPLY: credit for the reply endpoint itself");
         }
-        Endpoint::Send(credited) => {
-            hit("REPLY: credit given");
-            hit_if(hit, credited.cur_crd == 62, "REPLY: credit makes 62 into 63");
-            let above = credited.cur_crd >= credited.max_crd;
-            hit_if(hit, above, "REPLY: credit above max_crd");
+        Endpoint::Send(before) => {
+            credits::visit_credit(&before, &seen.endpoint_after(tile, id), hit);
         }
         _ => hit("REPLY: credit place is no send endpoint"),
     }

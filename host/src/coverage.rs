@@ -1,7 +1,7 @@
 //! Counts which answers each command has given, and which corners of the rules
 //! were reached. A run that leaves one out has not tested what it should.
 
-use crate::call::{Action, Call, Outcome};
+use crate::call::{Action, Call};
 use crate::corners::{self, Seen, CORNERS};
 use crate::model::privileged;
 use crate::stack::Stack;
@@ -57,13 +57,12 @@ pub struct Coverage {
 }
 
 impl Coverage {
-    /// Counts one call, given the words and records it was lent and what came back.
-    pub fn count(&mut self, call: &Call, words: &[u64], sharing: &[u64], outcome: &Outcome) {
+    /// Counts one call: its answer and the corners that it has reached.
+    pub fn count(&mut self, seen: &Seen) {
         self.calls += 1;
-        *self.answers.entry((row_of(call), outcome.answer)).or_default() += 1;
-        let seen = Seen { call, words, sharing, outcome };
+        *self.answers.entry((row_of(seen.call), seen.outcome.answer)).or_default() += 1;
         let corners = &mut self.corners;
-        corners::visit(&seen, &mut |corner| *corners.entry(corner).or_default() += 1);
+        corners::visit(seen, &mut |corner| *corners.entry(corner).or_default() += 1);
     }
 
     /// What is missing, or is there and should not be; nothing if all is well.

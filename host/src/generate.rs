@@ -281,9 +281,13 @@ impl<'a> Scene<'a> {
     }
 
     fn reply(&mut self) -> Command {
+        // Without the reply mark a send endpoint gives 5, and nothing else is tested.
+        let only_marked = self.random.chance(70);
         let answerable = self.slots(|scene, (tile, _), ep, idx| {
-            let id = u64::from(ep.rpl_eps) + idx;
-            !ep.range_past_end() && scene.endpoint((tile, id)).send().is_some()
+            let place = (tile, u64::from(ep.rpl_eps) + idx);
+            let sender = scene.endpoint(place).send();
+            let wanted = |sender: Send| sender.reply || !only_marked;
+            !ep.range_past_end() && sender.map_or(false, wanted)
         });
         if answerable.is_empty() && self.random.chance(60) {
             return self.send();

@@ -587,6 +587,10 @@ fn place_replies(random: &mut Random, world: &mut World, (tile, id): Place, rece
             reply.act = ep.act;
             if random.chance(80) {
                 reply.crd_ep = credit_place(random, world, reply.tgt_tile);
+                let credited = (u64::from(reply.tgt_tile), u64::from(reply.crd_ep));
+                if reply.crd_ep != NO_ENDPOINT && random.chance(60) {
+                    nearly_unlimited(random, world, credited);
+                }
             }
             world.put((tile, u64::from(ep.rpl_eps) + idx), Endpoint::Send(reply));
         }
@@ -640,6 +644,18 @@ fn credit_place(random: &mut Random, world: &World, tile: u8) -> u16 {
         return NO_ENDPOINT;
     }
     random.pick(&senders) as u16
+}
+
+/// Gives a send endpoint as many credits as there are, or nearly so, with a `max_crd`
+/// below them, at them or above: a reply adds to some of these and not to others.
+fn nearly_unlimited(random: &mut Random, world: &mut World, place: Place) {
+    if let Endpoint::Send(ep) = world.endpoint(&world.state, place) {
+        let cur_crd = random.pick(&[60, 61, 62, UNLIMITED]);
+        let fewer = random.pick(&[0, cur_crd / 2, cur_crd - 1]);
+        let more = random.pick(&[cur_crd + 1, UNLIMITED]).min(UNLIMITED);
+        let max_crd = random.pick(&[fewer, cur_crd, more]);
+        world.put(place, Endpoint::Send(Send { cur_crd, max_crd, ..ep }));
+    }
 }
 
 // ---------------------------------------------------------------- Damage

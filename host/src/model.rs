@@ -1,5 +1,5 @@
 //! The rules of the TCU reference machine as document 01 has them, in the order of
-//! its sentences, and those of requests T-01 and T-03 of document 02. Everything
+//! its sentences, and those of requests T-01, T-03 and T-04 of document 02. Everything
 //! works on slices that the host lends. Where document 01 says M, each tile has a
 //! size of its own: `size_of`, and `start_of`, which adds up the sizes before it.
 //! Sums of free 64-bit numbers are taken in 128 bits, so none of them wraps.
@@ -26,6 +26,8 @@ pub const HEADER: u64 = 32;
 pub const NO_ENDPOINT: u16 = 65_535;
 /// The `cur_crd` that means unlimited.
 pub const UNLIMITED: u8 = 63;
+/// The largest `cur_crd` that a reply adds one to: at 62 one more would be unlimited.
+pub const LAST_RAISED: u8 = 61;
 
 /// The memory of a tile, in bytes, is a multiple of 4,096, from 4,096 to 65,536.
 pub fn memory_allowed(memory: u64) -> bool {
@@ -671,6 +673,9 @@ impl Machine<'_> {
         let free = self.search(ep.occupied, ep.wpos, ep.slots, false);
         let idx = free.ok_or(Answer::RecvNoSpace)?;
         self.room_for_request(tile, &ep)?;
+        if self.wrong == Wrong::CreditRefused {
+            self.room_for_credit(message, tile)?;
+        }
 
         let filled = Receive {
             occupied: ep.occupied | 1 << idx,
@@ -751,22 +756,53 @@ impl Machine<'_> {
         self.mem[slot..after_header].copy_from_slice(&message.header());
     }
 
-    /// A reply adds one to `cur_crd` of endpoint `rep` on the receiving tile.
-    fn give_credit(&mut self, message: &Message, tile: u64) {
-        if message.rep == NO_ENDPOINT {
-            return;
+    /// The send endpoint on the receiving tile that a reply's `rep` names, where there is
+    /// one, and its number.
+    fn credit_place(&self, message: &Message, tile: u64) -> Option<(u64, Send)> {
+        if !message.is_reply || message.rep == NO_ENDPOINT {
+            return None;
         }
         let id = match self.wrong {
             Wrong::CreditElsewhere => u64::from(message.sep),
             _ => u64::from(message.rep),
         };
-        if let Endpoint::Send(ep) = self.endpoint(tile, id) {
-            let capped = self.wrong == Wrong::CreditCapped && ep.cur_crd >= ep.max_crd;
-            if ep.cur_crd != UNLIMITED && !capped {
-                let raised = Send { cur_crd: ep.cur_crd + 1, ..ep };
-                self.write_endpoint(tile, id, Endpoint::Send(raised));
-            }
+        self.endpoint(tile, id).send().map(|ep| (id, ep))
+    }
+
+    /// Whether a reply adds a credit to a send endpoint: not beyond `max_crd`, and never
+    /// so that the credits become unlimited.
+    fn gets_credit(&self, ep: &Send) -> bool {
+        let below_max = ep.cur_crd < ep.max_crd;
+        match self.wrong {
+            // No other than the test of `max_crd` alone, which is at most 63.
+            Wrong::CreditCap62 => below_max && ep.cur_crd <= 62,
+            Wrong::CreditCap60 => below_max && ep.cur_crd <= 60,
+            Wrong::CreditWithoutMax => ep.cur_crd <= LAST_RAISED,
+            Wrong::CreditAtMax => ep.cur_crd <= ep.max_crd && ep.cur_crd <= LAST_RAISED,
+            Wrong::CreditUnlessUnlimited => ep.cur_crd != UNLIMITED,
+            _ => below_max && ep.cur_crd <= LAST_RAISED,
         }
+    }
+
+    /// A reply adds one to `cur_crd` of the send endpoint that it names.
+    fn give_credit(&mut self, message: &Message, tile: u64) {
+        if let Some((id, ep)) = self.credit_place(message, tile) {
+            let cur_crd = match self.wrong {
+                Wrong::CreditClamped if ep.cur_crd != UNLIMITED => {
+                    (ep.cur_crd + 1).min(ep.max_crd).min(LAST_RAISED + 1)
+                }
+                _ if self.gets_credit(&ep) => ep.cur_crd + 1,
+                _ => return,
+            };
+            self.write_endpoint(tile, id, Endpoint::Send(Send { cur_crd, ..ep }));
+        }
+    }
+
+    /// What only a wrong model asks of a reply: that a limited sender gets its credit.
+    fn room_for_credit(&self, message: &Message, tile: u64) -> Checked<()> {
+        let left_out = |ep: Send| ep.cur_crd != UNLIMITED && !self.gets_credit(&ep);
+        let refused = self.credit_place(message, tile).map_or(false, |(_, ep)| left_out(ep));
+        demand(!refused, Answer::RecvNoSpace)
     }
 
     // ------------------------------------------------------------ Sound wiring

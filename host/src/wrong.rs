@@ -20,7 +20,13 @@ pub enum Wrong {
     SendKeepsDelivered,
     HeaderBeforePayload,
     ForwardCopy,
-    CreditCapped,
+    CreditCap62,
+    CreditCap60,
+    CreditWithoutMax,
+    CreditAtMax,
+    CreditClamped,
+    CreditRefused,
+    CreditUnlessUnlimited,
     SharedRangesSound,
     CountDoesNotWrap,
     ForeignCounted,
@@ -56,7 +62,7 @@ pub enum Wrong {
 
 /// Every wrong rule: its name on the command line and what it does.
 #[rustfmt::skip]
-pub const WRONG_RULES: [(Wrong, &str, &str); 46] = [
+pub const WRONG_RULES: [(Wrong, &str, &str); 52] = [
     (Wrong::CreditForRefusedSend, "credit-for-refused-send", "a refused SEND takes a credit"),
     (Wrong::SearchFromZero, "search-from-zero", "every slot search starts at 0"),
     (Wrong::SearchWithoutTurn, "search-without-turn", "a slot search ends at the last slot"),
@@ -71,7 +77,13 @@ pub const WRONG_RULES: [(Wrong, &str, &str); 46] = [
     (Wrong::SendKeepsDelivered, "send-keeps-delivered", "SEND lowers what its delivery left"),
     (Wrong::HeaderBeforePayload, "header-before-payload", "the header goes in before the payload"),
     (Wrong::ForwardCopy, "forward-copy", "READ and WRITE copy byte by byte, upwards"),
-    (Wrong::CreditCapped, "credit-capped", "a reply adds no credit at max_crd"),
+    (Wrong::CreditCap62, "credit-cap-62", "a reply makes 62 of 63 credits unlimited"),
+    (Wrong::CreditCap60, "credit-cap-60", "a reply adds no credit to 61"),
+    (Wrong::CreditWithoutMax, "credit-without-max", "a reply adds a credit whatever max_crd is"),
+    (Wrong::CreditAtMax, "credit-at-max", "a reply adds a credit at max_crd too"),
+    (Wrong::CreditClamped, "credit-clamped", "a reply takes credits above max_crd away"),
+    (Wrong::CreditRefused, "credit-refused", "a reply that can add no credit is refused with 7"),
+    (Wrong::CreditUnlessUnlimited, "credit-unless-unlimited", "only 63 gets no credit of a reply"),
     (Wrong::SharedRangesSound, "shared-ranges-sound", "the wiring check lets reply ranges overlap"),
     (Wrong::CountDoesNotWrap, "count-does-not-wrap", "the count stops at 0 and at 65535"),
     (Wrong::ForeignCounted, "foreign-counted", "a message for another activity is counted too"),

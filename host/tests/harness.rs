@@ -1,8 +1,8 @@
 //! Tests of the comparison itself, with the model on both ends of the line.
 
 use std::process::Command;
-use tcu_host::call::{Action, Sizes, State, FUNCTIONS};
-use tcu_host::generate::session;
+use tcu_host::call::{Action, Call, Sizes, State, FUNCTIONS};
+use tcu_host::generate::{session, Session};
 use tcu_host::model::{acceptable, opcode, privileged, ENDPOINTS};
 use tcu_host::sharing;
 use tcu_host::stack::Stack;
@@ -79,6 +79,37 @@ fn is_good(state: &State, sizes: &Sizes) -> bool {
     let mut records = state.sharing[..sizes.sharing_len as usize].chunks_exact(67);
     table.all(|(place, words)| acceptable(words, sizes.size_of(place / ENDPOINTS)))
         && records.all(sharing::acceptable)
+}
+
+/// Whether a session starts with the wiring check, and the wiring is sound.
+fn starts_sound(made: &Session) -> bool {
+    let first = &made.calls[0];
+    first.action == Action::Wiring && first.run(&mut made.state.clone(), Wrong::Nothing).answer == 1
+}
+
+fn configures(call: &Call) -> bool {
+    matches!(call.action, Action::Configure { .. } | Action::Invalidate { .. })
+}
+
+fn is_reply(call: &Call) -> bool {
+    matches!(&call.action, Action::Command(command) if command.opcode == opcode::REPLY)
+}
+
+/// Sound wiring never reaches the end of the credits: while only commands change the
+/// table, a model that knows no end but 63 comes to the same state after every call.
+#[test]
+fn sound_wiring_always_has_room_for_a_credit() {
+    let mut accepted = 0;
+    for made in (0..4000).map(|number| session(11, number)).filter(starts_sound) {
+        let (mut state, mut without_end) = (made.state.clone(), made.state);
+        for call in made.calls.iter().filter(|call| !configures(call)) {
+            let outcome = call.run(&mut state, Wrong::Nothing);
+            let other = call.run(&mut without_end, Wrong::CreditUnlessUnlimited);
+            assert!(outcome == other && state == without_end, "{:?}", call);
+            accepted += u64::from(is_reply(call) && outcome.answer == 0);
+        }
+    }
+    assert!(accepted > 200, "{} replies", accepted);
 }
 
 /// What holds of every call, whatever the rules say in detail: a refusal changes

@@ -1,5 +1,5 @@
 //! Document 01's "Numbers on both sides", held against the model, and the words of
-//! requests T-01 and T-03 in document 02.
+//! requests T-01, T-03 and T-04 in document 02.
 
 use tcu_host::call::{Sizes, State};
 use tcu_host::model::{
@@ -498,5 +498,59 @@ fn page_counts_that_are_refused() {
     assert_eq!(idle_on(0, &[], 0), 100, "no tile");
     for other in [0, 16 * PAGE, 17 * PAGE - 1, 17 * PAGE + 1, 18 * PAGE, 32 * PAGE] {
         assert_eq!(idle_on(2, &[1, 16], other), 100, "lent memory of {} bytes", other);
+    }
+}
+
+// ---------------------------------------------------------------- Credits
+
+/// The bench's machine: endpoint 4 of tile 0 sends to tile 1 and takes replies on
+/// endpoint 6. Nothing was sent; yet tile 1 replies, through a spare endpoint that was
+/// written by hand. Gives `cur_crd` of endpoint 4 afterwards; all else is as after any
+/// accepted reply.
+fn after_reply(cur_crd: u8, max_crd: u8) -> u8 {
+    let mut bench = Bench::new(&[1, 1]);
+    let sender = Send { cur_crd, max_crd, ..send(1, 7, 0, 8) };
+    bench.configure(0, 4, Endpoint::Send(sender));
+    bench.configure(0, 6, Endpoint::Receive(receive(0, 6, 2048, NO_ENDPOINT)));
+    bench.configure(1, 7, Endpoint::Receive(receive(1, 8, 1024, 20)));
+    let spare = Send { reply: true, crd_ep: 4, ..send(0, 6, 1, 6) };
+    bench.configure(1, 20, Endpoint::Send(spare));
+
+    assert_eq!(bench.command(command(1, opcode::REPLY, 7, 0, 32, 0)).0, 0, "accepted");
+    let came = Receive { occupied: 1, unread: 1, wpos: 1, ..receive(0, 6, 2048, NO_ENDPOINT) };
+    assert_eq!(bench.endpoint(0, 6), Endpoint::Receive(came));
+    assert_eq!(bench.endpoint(1, 20), Endpoint::Invalid);
+    let after = bench.endpoint(0, 4).send().unwrap();
+    assert_eq!(Send { cur_crd, ..after }, sender, "only cur_crd changes");
+    after.cur_crd
+}
+
+#[test]
+fn a_reply_does_not_make_credits_endless() {
+    assert_eq!(after_reply(62, 63), 62, "63 would be unlimited");
+    assert_eq!(after_reply(61, 63), 62);
+    assert_eq!(after_reply(61, 62), 62);
+    assert_eq!(after_reply(60, 63), 61);
+    assert_eq!(after_reply(63, 63), 63, "unlimited as before");
+    assert_eq!(after_reply(63, 5), 63);
+}
+
+#[test]
+fn a_reply_adds_no_credit_beyond_max_crd() {
+    assert_eq!(after_reply(4, 5), 5);
+    assert_eq!(after_reply(5, 5), 5);
+    assert_eq!(after_reply(7, 5), 7, "and takes none away");
+    assert_eq!(after_reply(0, 0), 0);
+    assert_eq!(after_reply(61, 61), 61);
+    assert_eq!(after_reply(62, 62), 62);
+}
+
+/// Every pair of credits: one more, unless that passes 62 or `max_crd`.
+#[test]
+fn a_reply_on_any_credits() {
+    for (cur_crd, max_crd) in (0..64 * 64).map(|pair| ((pair / 64) as u8, (pair % 64) as u8)) {
+        let one_more = cur_crd + 1;
+        let expected = if one_more <= max_crd.min(62) { one_more } else { cur_crd };
+        assert_eq!(after_reply(cur_crd, max_crd), expected, "{} of {}", cur_crd, max_crd);
     }
 }

@@ -3,10 +3,10 @@
 use Prim.Native.Nat.{ℕ, _+_, _-_, _*_, _^_, _<_, _≤_}
 use mathlib.Core.Bool.{Bool, true, false, not, _&&_}
 use mathlib.Core.List.{List, []}
-use mathlib.Core.Path.{_≡_, refl, ap}
+use mathlib.Core.Path.{_≡_, refl, sym, ap, _∙_}
 use native.Mathlib.Omega.{arith}
 use lib.Dec.{eqb, leb}
-use borrow.Author.Tests.{eqb-false, leb-false, lt-leb, not-true, not-false}
+use borrow.Author.Tests.{leb-false, not-true, not-false}
 use Rattle.numbers.specs.Choice.{_gives_else_}
 use Rattle.numbers.specs.Tests.{All}
 use Rattle.numbers.proofs.TestLaws.{split-and, true-all}
@@ -24,7 +24,7 @@ use Rattle.endpoint.specs.declared.Endpoint.the-variants.{Invalid, Send, Receiv
 use Rattle.endpoint.proofs.EndpointLaws.{fits-true}
 use Rattle.table.specs.Table.{Table, place, endpointAt}
 use Rattle.table.specs.Good.{memoryAt}
-use Rattle.table.proofs.TableLaws.{live}
+use Rattle.table.proofs.TableLaws.{look, live}
 use Rattle.sharing.specs.declared.Note.the-variants.{Read}
 use Rattle.slots.specs.Slots.{slotsOf, freeSlot, unreadSlot, slotNamed, rangeBad, rangePast, filled, cleared}
 use Rattle.slots.proofs.RecordLaws.{filled-ok, fetched-ok, cleared-ok}
@@ -39,6 +39,8 @@ use Rattle.messages.specs.Send.{lastChecks, sendChecks, sepOf, rsizeOf, request
 use Rattle.messages.specs.Reply.{fromChecks, replyChecks, response, creditable, credited, creditTo, creditReturned, replyGone, slotFreed, replyWrites, responseOf, answerOf, REPLY}
 use Rattle.delivery.specs.declared.Header.{Header}
 use Rattle.receive.specs.Fetch.{fetchWrites, FETCH}
+use Rattle.credits.specs.Room.{roomFor}
+use Rattle.credits.proofs.RoomLaws.{has-room}
 use Rattle.receive.specs.Ack.{ackChecks, ackWrites, ACK_MSG}
 use Rattle.command.specs.Narrow.{Narrow}
 
@@ -69,7 +71,7 @@ credits-ok : (m n : ℕ) (s : SendFields) → acceptable m (Send s) ≡ true →
 unfolding withCredits
 credits-ok m n s ok l = let h = fits-true m (Send s) ok in send-ok m (withCredits s n) (omega arith)
 
-credits-lt : (m : ℕ) (s : SendFields) → acceptable m (Send s) ≡ true → s .«cur_crd» < 64
+pub credits-lt : (m : ℕ) (s : SendFields) → acceptable m (Send s) ≡ true → s .«cur_crd» < 64
 credits-lt m s ok = fits-true m (Send s) ok .1 .1 .0
 
 -- ---- choices
@@ -96,10 +98,10 @@ sep-lt ep s l = go (eqb (s .«cur_crd») 63)
     go false = omega arith
 
 -- an endpoint that a command read and found to be of some kind: it has a place, and is acceptable there
-record Stands (b : Board) (tile ep : ℕ) (x : Endpoint) : Type 0 where
-  low : ep < 64
-  there : place tile ep < b .tiles * 64
-  ok : acceptable (memoryAt b (place tile ep)) x ≡ true
+pub record Stands (b : Board) (tile ep : ℕ) (x : Endpoint) : Type 0 where
+  pub low : ep < 64
+  pub there : place tile ep < b .tiles * 64
+  pub ok : acceptable (memoryAt b (place tile ep)) x ≡ true
 
 -- ---- the writes that SEND and REPLY share, or that have fields of their own
 -- the slot that was found is one of the receiver's
@@ -121,19 +123,17 @@ arrival-fits b tile ep r y h =
 cleared-fits : (b : Board) (tile ep : ℕ) (r : ReceiveFields) (i : ℕ) → Stands b tile ep (Receive r) → leb (slotsOf r) i ≡ false → Fit b (Receive (cleared r i)) (place tile ep)
 cleared-fits b tile ep r i y h = record { there = y .there; ok = cleared-ok (memoryAt b (place tile ep)) r (y .ok) i (leb-false (slotsOf r) i h) }
 
--- a credit goes, and one comes back
+-- a credit goes, and one comes back, where there is room for it
 taken-fits : (b : Board) (tile ep : ℕ) (s : SendFields) → Stands b tile ep (Send s) → Fit b (Send (withCredits s (s .«cur_crd» - 1))) (place tile ep)
 taken-fits b tile ep s x =
     let m = memoryAt b (place tile ep) in
     let l = credits-lt m s (x .ok) in
     record { there = x .there; ok = credits-ok m (s .«cur_crd» - 1) s (x .ok) (omega arith) }
 
-credited-fits : (b : Board) (tile ep : ℕ) (s : SendFields) → Stands b tile ep (Send s) → eqb (s .«cur_crd») 63 ≡ false → Fit b (Send (withCredits s (s .«cur_crd» + 1))) (place tile ep)
+credited-fits : (b : Board) (tile ep : ℕ) (s : SendFields) → Stands b tile ep (Send s) → roomFor s ≡ true → Fit b (Send (withCredits s (s .«cur_crd» + 1))) (place tile ep)
 credited-fits b tile ep s x h =
-    let m = memoryAt b (place tile ep) in
-    let l = credits-lt m s (x .ok) in
-    let d = eqb-false (s .«cur_crd») 63 h in
-    record { there = x .there; ok = credits-ok m (s .«cur_crd» + 1) s (x .ok) (omega arith) }
+    let l = has-room s h .1 .0 in
+    record { there = x .there; ok = credits-ok (memoryAt b (place tile ep)) (s .«cur_crd» + 1) s (x .ok) (omega arith) }
 
 -- the reply endpoint that a request leaves at the receiver r: its fields are those of a header whose fields fit
 reply-ok : (m n : ℕ) (r : ReceiveFields) (h : Header) → acceptable m (Receive r) ≡ true → h .rsize < 64 → h .sep < 65536 → h .rep < 65536 → h .stile < 256 → h .schip < 64 → h .rlabel < 2 ^ 64
@@ -141,16 +141,21 @@ reply-ok : (m n : ℕ) (r : ReceiveFields) (h : Header) → acceptable m (Receiv
 unfolding replyTo
 reply-ok m n r h ok rsize sep rep stile schip rlabel = let f = fits-true m (Receive r) ok in send-ok n (replyTo r h) (omega arith)
 
+-- a send endpoint that was read stands at its place
+pub stands-at : (t : Table) (tile ep : ℕ) → isSend (endpointAt t tile ep) ≡ true → t (place tile ep) ≡ Send (sendOf (endpointAt t tile ep))
+stands-at t tile ep h =
+    let e = is-send (endpointAt t tile ep) h in
+    sym (look t tile ep (live t tile ep (ap isInvalid e))) ∙ e
+
 -- ---- what a command reads in a table whose endpoints are acceptable
 module _ (b : Board) (t : Table) (good : (q : ℕ) → q < b .tiles * 64 → acceptable (memoryAt b q) (t q) ≡ true) where
   stands : (tile ep : ℕ) → tile < b .tiles → isInvalid (endpointAt t tile ep) ≡ false → Stands b tile ep (endpointAt t tile ep)
-  unfolding endpointAt _gives_else_
   stands tile ep on h =
       let low : ep < 64 = live t tile ep h in
       let there : place tile ep < b .tiles * 64 = omega arith in
-      rw (lt-leb 64 ep low) (record { low = low; there = there; ok = good (place tile ep) there })
+      rw (look t tile ep low) (record { low = low; there = there; ok = good (place tile ep) there })
 
-  sends : (tile ep : ℕ) → tile < b .tiles → isSend (endpointAt t tile ep) ≡ true → Stands b tile ep (Send (sendOf (endpointAt t tile ep)))
+  pub sends : (tile ep : ℕ) → tile < b .tiles → isSend (endpointAt t tile ep) ≡ true → Stands b tile ep (Send (sendOf (endpointAt t tile ep)))
   sends tile ep on h =
       let e = is-send (endpointAt t tile ep) h in
       rw e at (stands tile ep on (ap isInvalid e))
@@ -213,9 +218,9 @@ module _ (b : Board) (t : Table) (good : (q : ℕ) → q < b .tiles * 64 → acc
           (λ _. arrival-fits b (s .«tgt_tile») (s .«tgt_ep») r y (ok 18)),
           (
             (λ told.
-                let d = split-and (not (eqb (s .«crd_ep») 65535)) (isSend c && not (eqb ((sendOf c) .«cur_crd») 63)) told in
-                let e = split-and (isSend c) (not (eqb ((sendOf c) .«cur_crd») 63)) (d .1) in
-                credited-fits b (s .«tgt_tile») (s .«crd_ep») (sendOf c) (sends (s .«tgt_tile») (s .«crd_ep») there (e .0)) (not-true (eqb ((sendOf c) .«cur_crd») 63) (e .1))),
+                let d = split-and (not (eqb (s .«crd_ep») 65535)) (isSend c && roomFor (sendOf c)) told in
+                let e = split-and (isSend c) (roomFor (sendOf c)) (d .1) in
+                credited-fits b (s .«tgt_tile») (s .«crd_ep») (sendOf c) (sends (s .«tgt_tile») (s .«crd_ep») there (e .0)) (e .1)),
             (
               (λ _. record { there = w .there; ok = invalid-ok (memoryAt b (place tile (g .«rpl_eps» + i))) }),
               (

@@ -85,7 +85,7 @@ module _ (b : Board) (ws sh bs : List ℕ) (tile : ℕ) (k : Command) (fits : fi
 
 -- ---- the calls: check 1 of each is that the tile is there
 -- the second list has passed where both have
-rest-passed : (l k : List Check) → first (l then k) ≡ None → first k ≡ None
+pub rest-passed : (l k : List Check) → first (l then k) ≡ None → first k ≡ None
 unfolding first _then_
 rest-passed [] k h = h
 rest-passed ((false ⇒ e) ∷ l) k h = rest-passed l k h

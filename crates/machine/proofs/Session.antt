@@ -15,6 +15,7 @@ use Rattle.command.specs.Command.{does, _noting_, _▸_, _▸▸_, send_or_give
 use Rattle.command.specs.Outcome.{tabled, settled}
 use Rattle.command.specs.Local.{crossesPage, outside}
 use Rattle.delivery.specs.Delivery.{tooLong, messageChecks, farChecks, fitChecks, delivered, arrival}
+use Rattle.credits.specs.Room.{roomFor}
 use Rattle.messages.specs.Send.{lastChecks, sendChecks, sepOf, rsizeOf, request, replyTo, withCredits, replyPlaced, creditSpent, sendWrites, requestOf, SEND}
 use Rattle.messages.specs.Reply.{fromChecks, creditBad, replyChecks, response, creditable, credited, creditTo, creditReturned, replyGone, slotFreed, replyWrites, responseOf, answerOf, REPLY}
 use Rattle.receive.specs.Fetch.{fetchWrites, FETCH}
@@ -23,5 +24,5 @@ use Rattle.machine.specs.Machine.{stepOf}
 use Rattle.machine.specs.Session.{lines, Session}
 
 pub as-printed : Session
-unfolding lines stepOf _gives_else_ _above_ boardOf inWord pagesOf sizeOf putBit loops.first findSlot endpointAt upd freeSlot unreadSlot slotNamed rangePast rangeBad filled fetched cleared first _then_ _fails_else_ does _noting_ _▸_ _▸▸_ send_or_gives_ receive_or_gives_ slot_or_gives_ slot_else_gives_ tabled settled crossesPage wordAt foreign crowded outside tooLong messageChecks farChecks fitChecks delivered arrival lastChecks sendChecks sepOf rsizeOf request replyTo withCredits replyPlaced creditSpent sendWrites requestOf SEND fromChecks creditBad replyChecks response creditable credited creditTo creditReturned replyGone slotFreed replyWrites responseOf answerOf REPLY fetchWrites FETCH ackChecks ackWrites ACK_MSG
+unfolding lines stepOf _gives_else_ _above_ boardOf inWord pagesOf sizeOf putBit loops.first findSlot endpointAt upd freeSlot unreadSlot slotNamed rangePast rangeBad filled fetched cleared first _then_ _fails_else_ does _noting_ _▸_ _▸▸_ send_or_gives_ receive_or_gives_ slot_or_gives_ slot_else_gives_ tabled settled crossesPage wordAt foreign crowded outside tooLong messageChecks farChecks fitChecks delivered arrival lastChecks sendChecks sepOf rsizeOf request replyTo withCredits replyPlaced creditSpent sendWrites requestOf SEND fromChecks creditBad replyChecks response roomFor creditable credited creditTo creditReturned replyGone slotFreed replyWrites responseOf answerOf REPLY fetchWrites FETCH ackChecks ackWrites ACK_MSG
 as-printed = refl

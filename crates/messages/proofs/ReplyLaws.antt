@@ -1,7 +1,7 @@
 -- What an accepted REPLY is known to have before its delivery, each fact by its check's place, and the rules of its writes.
 -- Assumes nothing.
 use Prim.Native.Nat.{ℕ, _+_, _<_}
-use mathlib.Core.Bool.{Bool, true, false}
+use mathlib.Core.Bool.{Bool, true, false, not}
 use mathlib.Core.List.{List, [], _∷_}
 use mathlib.Core.Path.{_≡_, sym, ap, _∙_}
 use native.Mathlib.Omega.{arith}
@@ -9,7 +9,7 @@ use types.Run.{OneOf}
 use denote.Enum.Declared.{tagOf}
 use mir.Syntax.{w8}
 use mir.Val.{Fits}
-use borrow.Author.Tests.{ne-eqb, leb-false}
+use borrow.Author.Tests.{ne-eqb, leb-false, not-true, not-false}
 use Rattle.numbers.specs.Choice.{_gives_else_}
 use Rattle.numbers.specs.Tests.{All}
 use Rattle.numbers.proofs.SumLaws.{above-false}
@@ -19,10 +19,9 @@ use Rattle.answers.specs.declared.Answer.the-variants.{None}
 use Rattle.board.specs.Board.{sizeOf, bytesOf}
 use Rattle.board.specs.declared.Board.{Board}
 use Rattle.endpoint.specs.Acceptable.{acceptable}
-use Rattle.endpoint.specs.Kinds.{sendOf, noSend}
 use Rattle.endpoint.specs.Layout.{fit}
 use Rattle.endpoint.specs.declared.Endpoint.{Endpoint}
-use Rattle.endpoint.specs.declared.Endpoint.the-variants.{Invalid, Send, Receive, Memory}
+use Rattle.endpoint.specs.declared.Endpoint.the-variants.{Send, Receive}
 use Rattle.endpoint.specs.declared.SendFields.{SendFields}
 use Rattle.endpoint.specs.declared.ReceiveFields.{ReceiveFields}
 use Rattle.endpoint.proofs.Endpoint as endpoint-type
@@ -46,9 +45,10 @@ use Rattle.delivery.specs.Stowing.{Stowed}
 use Rattle.delivery.specs.declared.Header.{Header}
 use Rattle.delivery.specs.declared.Target.{Target}
 use Rattle.delivery.specs.declared.Target.the-variants.{To}
-use Rattle.delivery.proofs.Landing.{to-tile}
 use Rattle.messages.specs.Send.{withCredits}
 use Rattle.messages.specs.Reply.{fromChecks, creditBad, replyChecks, response, creditable, credited, creditTo, creditReturned, replyGone, slotFreed, replyWrites, answerOf}
+use Rattle.credits.specs.Room.{roomFor}
+use Rattle.credits.proofs.RoomLaws.{has-room}
 use Rattle.messages.specs.Ready.{Replyable, Creditable, Named}
 use Rattle.messages.proofs.MessageLaws.{short, tile-small, stowable}
 
@@ -101,28 +101,13 @@ pub stow-response : (b : Board) (ws sh : List ℕ) (n tile ep i : ℕ) (g : Rece
 stow-response b ws sh n tile ep i g s a q r j h c m z e p k = stowable b ws sh tile s a q r j c e p h n m (z .local-in) (rw k (response-fits b ws tile ep i g s a c z))
 
 -- ---- the credit
-credit-small : (m : ℕ) (x : Endpoint) → acceptable m x ≡ true → (sendOf x) .«cur_crd» < 64
-unfolding noSend
-credit-small m Invalid h = omega arith
-credit-small m (Send f) h = fits-true m (Send f) h .1 .1 .0
-credit-small m (Receive r) h = omega arith
-credit-small m (Memory y) h = omega arith
-
-pub may-credit : (b : Board) (ws sh : List ℕ) (tile ep i : ℕ) (g : ReceiveFields) (s : SendFields) (a : Registers) (q : Target) (r : ReceiveFields) (j : ℕ) (h : Header) (x : Endpoint) → Checked b ws tile
-    → Replyable b tile ep g i s a → q ≡ targetOf b (view ws) sh s a → q ≡ To r j → h ≡ response tile ep s a → x ≡ endpointAt (view ws) (s .«tgt_tile») (s .«crd_ep») → Creditable x (h .rep)
+pub may-credit : (b : Board) (tile ep i : ℕ) (g : ReceiveFields) (s : SendFields) (a : Registers) (h : Header) → Replyable b tile ep g i s a → h ≡ response tile ep s a → Creditable (h .rep)
 unfolding response
-may-credit b ws sh tile ep i g s a q r j h x c z e p k y =
-    record {
-      there = λ d. rw k (z .credit-in (λ w. d (rw k w)));
-      small = credit-small (sizeOf b (s .«tgt_tile»)) x (rw y (read-acceptable b ws tile (s .«tgt_tile») (s .«crd_ep») c (to-tile b ws sh tile s a q r j c e p)));
-    }
+may-credit b tile ep i g s a h z k = record { there = λ d. rw k (z .credit-in (λ w. d (rw k w))) }
 
-pub credit-there : (x : Endpoint) (rep : ℕ) → Creditable x rep → (rep ≡ 65535 → ⊥) → rep < 64
-credit-there x rep z d = z .there d
-
-pub credit-fits : (x : Endpoint) (rep : ℕ) (f : SendFields) → Creditable x rep → x ≡ Send f → Fits w8 (f .«cur_crd» + 1)
-credit-fits x rep f z p =
-    let l : f .«cur_crd» < 64 = rw p at (z .small) in
+pub credit-fits : (f : SendFields) (r : Bool) → r ≡ roomFor f → not r ≡ false → Fits w8 (f .«cur_crd» + 1)
+credit-fits f r e h =
+    let l = has-room f (sym e ∙ not-false r h) .1 .0 in
     record { fits = omega arith }
 
 -- the two ways of a `let Endpoint::Send(f) = x else { .. }`
@@ -130,13 +115,13 @@ pub creditable-not : (x : Endpoint) → OneOf (0 ∷ 2 ∷ 3 ∷ []) (tagOf endp
 unfolding creditable
 creditable-not x k = rw (no-send x k)
 
-pub creditable-full : (x : Endpoint) (f : SendFields) → x ≡ Send f → f .«cur_crd» ≡ 63 → creditable x ≡ false
+pub creditable-full : (x : Endpoint) (f : SendFields) (r : Bool) → x ≡ Send f → r ≡ roomFor f → not r ≡ true → creditable x ≡ false
 unfolding creditable
-creditable-full x f p h = rw (p, h)
+creditable-full x f r p e h = rw (p, ← e, not-true r h)
 
-pub creditable-more : (x : Endpoint) (f : SendFields) → x ≡ Send f → (f .«cur_crd» ≡ 63 → ⊥) → creditable x ≡ true
+pub creditable-more : (x : Endpoint) (f : SendFields) (r : Bool) → x ≡ Send f → r ≡ roomFor f → not r ≡ false → creditable x ≡ true
 unfolding creditable
-creditable-more x f p d = rw (p, ne-eqb (f .«cur_crd») 63 d)
+creditable-more x f r p e h = rw (p, ← e, not-false r h)
 
 pub credits-more : (x : Endpoint) (f m : SendFields) → x ≡ Send f → m ≡ withCredits f (f .«cur_crd» + 1) → Send m ≡ credited x
 unfolding credited

@@ -3,8 +3,6 @@ use Prim.Native.Nat.{ℕ, _+_, _*_, _<_, _≤_}
 use mathlib.Core.Path.{_≡_}
 use Rattle.board.specs.Board.{sizeOf}
 use Rattle.board.specs.declared.Board.{Board}
-use Rattle.endpoint.specs.Kinds.{sendOf}
-use Rattle.endpoint.specs.declared.Endpoint.{Endpoint}
 use Rattle.endpoint.specs.declared.SendFields.{SendFields}
 use Rattle.endpoint.specs.declared.ReceiveFields.{ReceiveFields}
 use Rattle.table.specs.Table.{Table}
@@ -31,10 +29,9 @@ pub record Replyable (b : Board) (tile ep : ℕ) (g : ReceiveFields) (i : ℕ) (
   pub short : a .size < 4096
   pub local-in : a .addr + a .size ≤ sizeOf b tile
 
--- the endpoint x at number rep may get a credit: it is one of its tile's, and one more fits its bits
-pub record Creditable (x : Endpoint) (rep : ℕ) : Type 0 where
+-- the endpoint at number rep may get a credit: it is one of its tile's
+pub record Creditable (rep : ℕ) : Type 0 where
   pub there : (rep ≡ 65535 → ⊥) → rep < 64
-  pub small : (sendOf x) .«cur_crd» < 64
 
 -- the target's words are lent, and its slot's reply endpoint is one of its tile's
 pub record Landed (n : ℕ) (s : SendFields) (r : ReceiveFields) (i : ℕ) : Type 0 where

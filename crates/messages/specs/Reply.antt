@@ -25,6 +25,7 @@ use Rattle.command.specs.Command.{Command, Write, _⇐_to_, does, _noting_, _�
 use Rattle.command.specs.Local.{outside}
 use Rattle.command.specs.declared.Registers.{Registers}
 use Rattle.delivery.specs.Delivery.{messageChecks, delivered, arrival, arrivalOf, messageTo}
+use Rattle.credits.specs.Room.{roomFor}
 use Rattle.messages.specs.Send.{withCredits}
 use Rattle.delivery.specs.declared.Header.{Header}
 
@@ -65,9 +66,9 @@ response tile ep s a =
       label = s .label;
     }
 
--- A reply with rep not 65535 adds one to cur_crd of endpoint rep there, if that is a SEND endpoint and its cur_crd is not 63.
+-- A reply with rep not 65535 adds one to cur_crd of endpoint rep there, if that is a SEND endpoint and, with T-04, has room for it.
 unfoldable pub creditable : Endpoint → Bool
-creditable x = isSend x && not (eqb ((sendOf x) .«cur_crd») 63)
+creditable x = isSend x && roomFor (sendOf x)
 
 unfoldable pub credited : Endpoint → Endpoint
 credited x = Send (withCredits (sendOf x) ((sendOf x) .«cur_crd» + 1))

@@ -95,9 +95,9 @@ fn response_header(tile: u64, ep: u64, s: SendFields, a: Registers) -> Header
     }
 }
 
-// A credit goes back to the endpoint x that the header names, if that is a send endpoint whose credits are not unlimited.
+// A credit goes back to the endpoint x that the header names, if that is a send endpoint with room for it.
 fn return_credit(words: &mut [u64], x: Endpoint, s: SendFields, h: Header)
-    requires { ⌜ (s .«tgt_tile» * 192 + 192 ≤ length (now words)) × Creditable x (h .rep) ⌝ }
+    requires { ⌜ (s .«tgt_tile» * 192 + 192 ≤ length (now words)) × Creditable (h .rep) ⌝ }
     ensures { λ _. ⌜ now (words .exit) ≡ written (now (words .entry)) (creditTo x s h ∷ []) ⌝ }
 {
     if h.rep == 65535 {
@@ -106,7 +106,7 @@ fn return_credit(words: &mut [u64], x: Endpoint, s: SendFields, h: Header)
     let Endpoint::Send(f) = x else {
         return;
     };
-    if f.cur_crd == 63 {
+    if !credits::has_room(f) {
         return;
     }
     let more = crate::requests::with_credits(f, f.cur_crd + 1);
@@ -148,7 +148,7 @@ fn reply_write(
     h: Header,
     x: Endpoint,
 )
-    requires { ⌜ (tile * 192 + 192 ≤ length (now words)) × (ep < 64) × (i < 32) × (g .«rpl_eps» + i < 64) × Landed (length (now words)) s r j × Creditable x (h .rep) ⌝ }
+    requires { ⌜ (tile * 192 + 192 ≤ length (now words)) × (ep < 64) × (i < 32) × (g .«rpl_eps» + i < 64) × Landed (length (now words)) s r j × Creditable (h .rep) ⌝ }
     ensures { λ _. ⌜ now (words .exit) ≡ written (now (words .entry)) (arrival s r j ∷ creditTo x s h ∷ replyGone tile g i ∷ slotFreed tile ep g i ∷ []) ⌝ }
 {
     delivery::arrive(words, s, r, j);

@@ -6,7 +6,7 @@ use mathlib.Core.Logic.{_≢_}
 use mathlib.Core.Path.{_≡_, refl, sym, ap, _∙_, fun-ext}
 use native.Mathlib.Omega.{arith}
 use native.Mathlib.Decide.{ℕ-discrete}
-use borrow.Author.Tests.{eqb-true, eqb-false, leb-false}
+use borrow.Author.Tests.{eqb-true, eqb-false, leb-false, lt-leb}
 use lib.Dec.{eqb, leb}
 use lib.ListN.{length}
 use Rattle.numbers.specs.Choice.{_gives_else_}
@@ -55,6 +55,11 @@ view-stored ws q m e l ok = fun-ext (λ j. at j (ℕ-discrete j q))
     at : (j : ℕ) → Dec (j ≡ q) → fieldsOf (wordsNth (putNth ws q (wordsOf e)) j) ≡ upd (view ws) q e j
     at j (yes p) = rw (upd-at (view ws) q e j p, p, words-put-same ws q (wordsOf e) l) (fields-back e (fits-true m e ok))
     at j (no d) = rw (upd-off (view ws) q e j d, words-put-other ws q j (wordsOf e) d)
+
+-- an endpoint that has a number below 64 stands at its place
+pub look : (t : Table) (tile ep : ℕ) → ep < 64 → endpointAt t tile ep ≡ t (place tile ep)
+unfolding endpointAt _gives_else_
+look t tile ep l = rw (lt-leb 64 ep l)
 
 -- an endpoint that is not INVALID was read at a number below 64
 pub live : (t : Table) (tile ep : ℕ) → isInvalid (endpointAt t tile ep) ≡ false → ep < 64

@@ -13,17 +13,16 @@ use Rattle.endpoint.specs.declared.ReceiveFields.{ReceiveFields}
 use Rattle.endpoint.specs.declared.Endpoint.{Endpoint}
 use Rattle.endpoint.specs.declared.Endpoint.the-variants.{Invalid, Send, Receive, Memory}
 use Rattle.table.specs.Table.{Table, place}
-use Rattle.table.proofs.TableLaws.{live}
+use Rattle.table.proofs.TableLaws.{look, live}
 use Rattle.slots.specs.Slots.{slotsOf}
 use Rattle.wiring.specs.Credits.{share, held, creditsHeld, promise, promised}
-use Rattle.wiring.specs.Ledger.{nothing, blank, kept, asks}
+use Rattle.wiring.specs.Ledger.{Held, nothing, blank, kept, asks}
 use Rattle.wiring.specs.Sound.{beside, Receiver, Ranged, Sender, Sound}
 use Rattle.wiring.proofs.Places.{clash, same?}
 use Rattle.wiring.proofs.SumLaws.{sum-le, sum-none}
 use Rattle.wiring.proofs.SlotFacts.{no-bits}
-use Rattle.wiring.proofs.Shapes.{other, sender, shape, shape-send, is-sender, is-receiver, cur}
-use Rattle.wiring.proofs.Inv.{Net, Takes, Gives, Wires, Slot, occ, among, Inv}
-use Rattle.wiring.proofs.Commands.{look}
+use Rattle.wiring.proofs.Shapes.{other, sender, shape, shape-send, is-sender, is-receiver, cur, most}
+use Rattle.wiring.proofs.Inv.{Net, Takes, Gives, Wires, Slot, occ, weigh, among, asksOf, Inv}
 
 -- the wiring as it was at the start
 abbrev pub net : ℕ → Table → Net
@@ -100,7 +99,7 @@ module _ (n : ℕ) (t : Table) (O : Sound n t) where
 
     pub begins : Inv (net n t) t blank
     unfolding creditsHeld promised share shape
-    begins = record { wires = wires; fixed = λ q. refl; slots = slots; full = full; books = λ s r G. refl }
+    begins = record { wires = wires; fixed = λ q. refl; slots = slots; full = full; owed = owed; books = λ s r G. refl }
       where
         none : {r p k : ℕ} (R : Takes (net n t) r p k) (i : ℕ) → hasBit (occ (t r)) i ≡ false
         none {r} R i = let v = wired R in rw (v .at .is, O .empty (v .at)) (no-bits i)
@@ -111,7 +110,14 @@ module _ (n : ℕ) (t : Table) (O : Sound n t) where
             rw (none R i)
             record { real = λ d. clash (cc); from = λ s q. clash (cc q); link = λ np f q. clash (cc (O .bare (v .ranged np) i (v .low i l), rw (← v .rpl) at q)) }
 
+        -- no slot holds anything
+        empty : (w : Held → ℕ) → w nothing ≡ 0 → {r p k : ℕ} (R : Takes (net n t) r p k) → weigh w k (occ (t r)) (λ i. nothing) ≡ 0
+        empty w zeroes {r} {p} {k} R = sum-none (2 ^ k) (λ i. w (kept (hasBit (occ (t r)) i) nothing)) (λ i. rw (none R i) zeroes)
+
         -- every sender's credits are full
+        owed : (r s p k : ℕ) → Gives (net n t) s r → Takes (net n t) r p k → cur (t s) + weigh (asksOf s) k (occ (t r)) (λ i. nothing) ≤ most (t s)
+        owed r s p k G R = omega (arith, empty (asksOf s) refl R, O .whole (record { there = G .there; is = is-sender (t s) (G .is) }) .0)
+
         each : (r q : ℕ) → q < n * 64 → (x : Endpoint) → t q ≡ x → held r x ≤ promise r x
         each r q l Invalid e = le-refl 0
         each r q l (Send f) e = rw (O .whole (record { there = l; is = e }) .0) (le-refl _)
@@ -121,5 +127,5 @@ module _ (n : ℕ) (t : Table) (O : Sound n t) where
         full : (r p k : ℕ) → Takes (net n t) r p k → creditsHeld (n * 64) t r + among k (occ (t r)) (λ i. nothing) ≤ 2 ^ k
         full r p k R =
             let v = wired R in
-            rw (sum-none (2 ^ k) (λ i. asks (kept (hasBit (occ (t r)) i) nothing)) (λ i. rw (none R i)), ← v .slots)
-            (omega (arith, O .given (v .at), sum-le (n * 64) (λ q. held r (t q)) (λ q. promise r (t q)) (λ q l. each r q l (t q) refl)))
+            rw (← v .slots)
+            (omega (arith, rw (← v .slots) at (empty asks refl R), O .given (v .at), sum-le (n * 64) (λ q. held r (t q)) (λ q. promise r (t q)) (λ q l. each r q l (t q) refl)))

@@ -34,7 +34,8 @@ use Rattle.wiring.proofs.SlotFacts.{none-free}
 use Rattle.wiring.proofs.Shapes.{shape, cur, is-sender, held-send}
 use Rattle.wiring.proofs.Inv.{Net, Inv}
 use Rattle.wiring.proofs.Steps.{takes}
-use Rattle.wiring.proofs.Commands.{look, Stands, sends, receives, aimed, Turns}
+use Rattle.table.proofs.TableLaws.{look}
+use Rattle.wiring.proofs.Commands.{Stands, sends, receives, aimed, Turns}
 use Rattle.wiring.proofs.Begins.{net, Feeds, feeds}
 
 -- m slots that all hold something, with less than m requests among them, hold a reply

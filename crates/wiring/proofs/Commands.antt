@@ -6,7 +6,7 @@ use mathlib.Core.List.{List, [], _∷_}
 use mathlib.Core.Logic.{_≢_}
 use mathlib.Core.Path.{_≡_, refl, sym, ap, _∙_}
 use native.Mathlib.Omega.{arith}
-use borrow.Author.Tests.{eqb-true, eqb-false, ne-eqb, leb-false, lt-leb, not-false}
+use borrow.Author.Tests.{eqb-true, eqb-false, ne-eqb, leb-false, not-false}
 use lib.Dec.{eqb, leb}
 use Rattle.numbers.specs.Choice.{_gives_else_}
 use Rattle.answers.specs.declared.Error.the-variants.{NoRep, ForeignEp}
@@ -20,7 +20,7 @@ use Rattle.endpoint.specs.declared.ReceiveFields.{ReceiveFields}
 use Rattle.endpoint.specs.declared.Endpoint.{Endpoint}
 use Rattle.endpoint.specs.declared.Endpoint.the-variants.{Invalid, Send, Receive, Memory}
 use Rattle.table.specs.Table.{Table, place, endpointAt}
-use Rattle.table.proofs.TableLaws.{live}
+use Rattle.table.proofs.TableLaws.{look, live}
 use Rattle.sharing.specs.declared.Note.the-variants.{Read}
 use Rattle.slots.specs.Slots.{slotsOf, unreadSlot, slotNamed}
 use Rattle.command.specs.Checks.{_⇒_, first, _then_}
@@ -31,6 +31,7 @@ use Rattle.command.proofs.CheckFacts.{nth, passed}
 use Rattle.delivery.specs.declared.Header.{Header}
 use Rattle.delivery.specs.Delivery as delivery
 use Rattle.messages.specs.Send as sending
+use Rattle.credits.proofs.RoomLaws.{room-is}
 use Rattle.messages.specs.Reply as replying
 use Rattle.receive.specs.Fetch as fetching
 use Rattle.receive.specs.Ack as acking
@@ -40,10 +41,10 @@ use Rattle.wiring.specs.Ledger.{Ledger, nextSlot, entered}
 use Rattle.wiring.specs.Sound.{beside}
 use Rattle.wiring.proofs.Places.{clash}
 use Rattle.wiring.proofs.SlotFacts.{next-free}
-use Rattle.wiring.proofs.Shapes.{sender, shape, cur, shape-send, is-sender}
+use Rattle.wiring.proofs.Shapes.{sender, shape, cur, most, shape-send, is-sender}
 use Rattle.wiring.proofs.Inv.{Net, Gives, Inv}
 use Rattle.wiring.proofs.Moves.{few}
-use Rattle.wiring.proofs.Steps.{Sending, send-keeps, Replying, named-by, sender-is, reply-keeps, fetch-keeps, ack-bare, ack-keeps}
+use Rattle.wiring.proofs.Steps.{Sending, send-keeps, Replying, named-by, sender-is, short, reply-keeps, fetch-keeps, ack-bare, ack-keeps}
 
 -- ---- what stands at a place
 pub is-send : (x : Endpoint) → isSend x ≡ true → x ≡ Send (sendOf x)
@@ -57,10 +58,6 @@ is-recv Invalid h = clash (cc)
 is-recv (Send f) h = clash (cc)
 is-recv (Receive g) h = refl
 is-recv (Memory m) h = clash (cc)
-
-pub look : (t : Table) (a e : ℕ) → e < 64 → endpointAt t a e ≡ t (place a e)
-unfolding endpointAt _gives_else_
-look t a e l = rw (lt-leb 64 e l)
 
 -- an endpoint that a command has found to be of some kind
 pub record Stands (n : ℕ) (t : Table) (a e : ℕ) (x : Endpoint) : Type 0 where
@@ -94,10 +91,10 @@ told-ranged true b h = clash (cc)
 told-ranged false true h = clash (cc)
 told-ranged false false h = refl
 
--- a sender with credits that are not unlimited gets its credit
-creditable-is : (x : Endpoint) → x ≡ Send (sendOf x) → cur x ≢ 63 → replying.creditable x ≡ true
+-- a sender that has fewer credits than it may have, and fewer than 62, gets its credit
+creditable-is : (x : Endpoint) → x ≡ Send (sendOf x) → cur x < most x → cur x ≤ 61 → replying.creditable x ≡ true
 unfolding replying.creditable
-creditable-is x e d = rw (ap isSend e, ne-eqb (cur x) 63 d)
+creditable-is x e l m = rw (ap isSend e, room-is (sendOf x) (l, (m, tt)))
 
 credited-is : (x : Endpoint) → replying.credited x ≡ Send (sending.withCredits (sendOf x) (cur x + 1))
 unfolding replying.credited
@@ -172,36 +169,66 @@ module _ (N : Net) (b : Board) (t : Table) (sh bs : List ℕ) (own tile : ℕ) (
       (send-keeps I C (not (eqb (sending.request t tile ep f a .rep) 65535) && not (eqb (g .«rpl_eps») 65535))
       (λ q. eqb-false (g .«rpl_eps») 65535 (told-ranged (eqb (sending.request t tile ep f a .rep) 65535) (eqb (g .«rpl_eps») 65535) q)))
 
+  -- the reply endpoint that an accepted REPLY uses
+  abbrev answers : ℕ → Registers → SendFields
+  answers ep a = let g = receiveOf (endpointAt t tile ep) in sendOf (endpointAt t tile (g .«rpl_eps» + slotNamed g (a .arg0)))
+
+  made : (ep : ℕ) (a : Registers) → first ((step opReply ep a) .checks) ≡ None
+      → let g = receiveOf (endpointAt t tile ep) in
+      let f = answers ep a in
+      Replying N t (place tile ep) (slotNamed g (a .arg0)) (place (f .«tgt_tile») (f .«tgt_ep»)) g f (receiveOf (endpointAt t (f .«tgt_tile») (f .«tgt_ep»)))
+  unfolding stepOf does _noting_ _▸_ _▸▸_ send_or_gives_ receive_or_gives_ slot_or_gives_ _then_ delivery.messageChecks delivery.farChecks delivery.fitChecks delivery.delivered replying.fromChecks replying.replyChecks replying.responseOf replying.answerOf replying.REPLY
+  made ep a h =
+      let ok = passed ((step opReply ep a) .checks) h in
+      let g : ReceiveFields = receiveOf (endpointAt t tile ep) in
+      let i : ℕ = slotNamed g (a .arg0) in
+      let f : SendFields = answers ep a in
+      let g′ : ReceiveFields = receiveOf (endpointAt t (f .«tgt_tile») (f .«tgt_ep»)) in
+      let x : Stands n t tile ep (Receive g) = receives n t tile ep l (ok 0) in
+      let w : Stands n t tile (g .«rpl_eps» + i) (Send f) = sends n t tile (g .«rpl_eps» + i) l (ok 5) in
+      let y : Stands n t (f .«tgt_tile») (f .«tgt_ep») (Receive g′) = receives n t (f .«tgt_tile») (f .«tgt_ep») (ok 14) (ok 15) in
+      let free = next-free g′ (turns (place (f .«tgt_tile») (f .«tgt_ep»)) g′ (y .there) (y .is)) (ok 18) in
+      record {
+        there = rw size (x .there);
+        src = x .is;
+        ranged = eqb-false (g .«rpl_eps») 65535 (ok 1);
+        low = leb-false (slotsOf g) i (ok 4);
+        by = rw (at-tile tile ep (g .«rpl_eps» + i) (x .low)) at (w .is);
+        there′ = rw size (y .there);
+        dst = y .is;
+        room = free .low;
+        free = free .free;
+      }
+
+  -- its credit has a sender to go to, and there is room for it
+  pub due : (ep : ℕ) (a : Registers) → first ((step opReply ep a) .checks) ≡ None
+      → ((answers ep a) .«crd_ep» < 64) × (replying.creditable (endpointAt t ((answers ep a) .«tgt_tile») ((answers ep a) .«crd_ep»)) ≡ true)
+  due ep a h =
+      let f : SendFields = answers ep a in
+      let C = made ep a h in
+      let s : ℕ = place (f .«tgt_tile») (f .«crd_ep») in
+      let low = named-by I C .1 in
+      let G = sender-is I C in
+      (low, rw (look t (f .«tgt_tile») (f .«crd_ep») low) (creditable-is (t s) (is-sender (t s) (I .fixed s ∙ G .is)) (short I C) (omega (arith, few I G))))
+
   reply-case : (ep : ℕ) (a : Registers) → first ((step opReply ep a) .checks) ≡ None → Inv N (result opReply ep a) (entered t tile opReply ep a L)
   unfolding stepOf tabled does _noting_ _▸_ _▸▸_ send_or_gives_ receive_or_gives_ slot_or_gives_ _then_ delivery.messageChecks delivery.farChecks delivery.fitChecks delivery.delivered delivery.arrival replying.fromChecks replying.replyChecks replying.creditTo replying.creditReturned replying.replyGone replying.slotFreed replying.replyWrites replying.responseOf replying.answerOf replying.REPLY
   reply-case ep a h =
       let ok = passed ((step opReply ep a) .checks) h in
       let g : ReceiveFields = receiveOf (endpointAt t tile ep) in
-      let i : ℕ = slotNamed g (a .arg0) in
-      let f : SendFields = sendOf (endpointAt t tile (g .«rpl_eps» + i)) in
-      let g′ : ReceiveFields = receiveOf (endpointAt t (f .«tgt_tile») (f .«tgt_ep»)) in
-      let x : Stands n t tile ep (Receive g) = receives n t tile ep l (ok 0) in
-      let w : Stands n t tile (g .«rpl_eps» + i) (Send f) = sends n t tile (g .«rpl_eps» + i) l (ok 5) in
-      let y : Stands n t (f .«tgt_tile») (f .«tgt_ep») (Receive g′) = receives n t (f .«tgt_tile») (f .«tgt_ep») (ok 14) (ok 15) in
+      let f : SendFields = answers ep a in
+      let C = made ep a h in
+      let back : eqb (f .«crd_ep») 65535 ≡ false = ne-eqb (f .«crd_ep») 65535 (omega (arith, due ep a h .0)) in
       let s : ℕ = place (f .«tgt_tile») (f .«crd_ep») in
-      let at-κ = at-tile tile ep (g .«rpl_eps» + i) (x .low) in
-      let free = next-free g′ (turns (place (f .«tgt_tile») (f .«tgt_ep»)) g′ (y .there) (y .is)) (ok 18) in
-      let C : Replying N t (place tile ep) i (place (f .«tgt_tile») (f .«tgt_ep»)) g f g′ = record {
-        there = rw size (x .there);
-        src = x .is;
-        ranged = eqb-false (g .«rpl_eps») 65535 (ok 1);
-        low = leb-false (slotsOf g) i (ok 4);
-        by = rw at-κ at (w .is);
-        there′ = rw size (y .there);
-        dst = y .is;
-        room = free .low;
-        free = free .free;
-      } in
-      let nm = named-by I C in
-      let G = sender-is I C in
-      let back : eqb (f .«crd_ep») 65535 ≡ false = ne-eqb (f .«crd_ep») 65535 (omega (arith, nm .1)) in
-      let got : replying.creditable (t s) ≡ true = creditable-is (t s) (is-sender (t s) (I .fixed s ∙ G .is)) (λ e. omega (arith, few I G)) in
-      rw (rep-is tile ep f a, back, look t (f .«tgt_tile») (f .«crd_ep») (nm .1), got, credited-is (t s), nm .0, at-κ)
+      rw (
+        rep-is tile ep f a,
+        back,
+        due ep a h .1,
+        look t (f .«tgt_tile») (f .«crd_ep») (due ep a h .0),
+        credited-is (t s),
+        named-by I C .0,
+        at-tile tile ep (g .«rpl_eps» + slotNamed g (a .arg0)) (receives n t tile ep l (ok 0) .low),
+      )
       (reply-keeps I C)
 
   fetch-case : (ep : ℕ) (a : Registers) → first ((step opFetch ep a) .checks) ≡ None → Inv N (result opFetch ep a) L

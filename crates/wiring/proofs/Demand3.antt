@@ -29,14 +29,16 @@ use Rattle.machine.proofs.Demand1.{answered}
 use Rattle.machine.proofs.PrivilegedLaws.{one-of-three}
 use Rattle.machine.specs.Machine.{opcodeOf, stepOf, machineRight, hostChecks, commandOf, privilegedOf, respondOf, left, leftBy}
 use Rattle.wiring.specs.Ledger.{Ledger, reply, holds}
+use Rattle.wiring.specs.Sound.{Sound}
 use Rattle.wiring.specs.Run.{Machine, Step, command, privileged, response, IsNarrow, AllNarrow, World, givenTo, callOf, leftOf, answerOf, entry, next, run, start}
 use Rattle.wiring.specs.Wiring.{wiringOf, YesExactly}
 use Rattle.wiring.specs.declared.Wiring.the-variants.{Yes}
 use Rattle.wiring.specs.Demand3.{KeptBy, Demand3}
+use Rattle.wiring.specs.Room.{AlwaysRoom}
 use Rattle.wiring.proofs.Exactly.{yes-exactly}
 use Rattle.wiring.proofs.Right.{few, turns, shares}
 use Rattle.wiring.proofs.Inv.{Net, Inv}
-use Rattle.wiring.proofs.Commands.{accepted}
+use Rattle.wiring.proofs.Commands.{accepted, due}
 use Rattle.wiring.proofs.Begins.{net, begins}
 use Rattle.wiring.proofs.Claims as claims
 
@@ -145,6 +147,12 @@ unfolding run
 runs [] W w G = G
 runs (c ∷ cs) W w G = runs cs (W .1) (next w c) (keeps w c (W .0) G)
 
+-- where a run on sound wiring leads
+reached : (m : Machine) → machineRight (m .board) (m .words) (m .sharing) (m .bytes) ≡ true → Sound (m .board .tiles) (view (m .words))
+    → (cs : List Step) → AllNarrow cs → Good (net (m .board .tiles) (view (m .words))) (run (start m) cs)
+reached m ok O cs W =
+    runs cs W (start m) (record { size = refl; inv = begins (m .board .tiles) (view (m .words)) O (few (m .board) (m .words) (m .sharing) (m .bytes) ok) })
+
 pub demand-3 : Demand3
 unfolding Demand3 opcodeOf _gives_else_ stepOf
 demand-3 m₀ ok O cs W = record {
@@ -153,9 +161,6 @@ demand-3 m₀ ok O cs W = record {
   full = full;
 }
   where
-    b : Board
-    b = m₀ .board
-
     n : ℕ
     n = m₀ .board .tiles
 
@@ -172,7 +177,7 @@ demand-3 m₀ ok O cs W = record {
     L = w .ledger
 
     G : Good (net n t₀) w
-    G = runs cs W (start m₀) (record { size = refl; inv = begins n t₀ O (few b (m₀ .words) (m₀ .sharing) (m₀ .bytes) ok) })
+    G = reached m₀ ok O cs W
 
     full : (tile ep : ℕ) (a : Registers) → answerOf (w .machine) (command tile 1 ep a) ≡ Refused RecvNoSpace
         → let s = sendOf (endpointAt t tile ep) in
@@ -189,3 +194,14 @@ pub demand-3-checked : (m : Machine) → wiringOf (m .board) (m .words) (m .shar
     → KeptBy m (run (start m) cs)
 unfolding Demand3 YesExactly
 demand-3-checked m h = let p = yes-exactly (m .board) (m .words) (m .sharing) (m .bytes) .0 h in demand-3 m (p .0) (p .1)
+
+-- T-04: an accepted REPLY finds room for its credit
+pub always-room : AlwaysRoom
+unfolding AlwaysRoom opcodeOf _gives_else_ stepOf
+always-room m₀ ok O cs W tile ep a h =
+    let w : World = run (start m₀) cs in
+    let m : Machine = w .machine in
+    let G : Good (net (m₀ .board .tiles) (view (m₀ .words))) w = reached m₀ ok O cs W in
+    let i : Inner m tile 2 ep a None = when-accepted m tile 2 ep a (sym (answer-is m (command tile 2 ep a)) ∙ h) in
+    due (net (m₀ .board .tiles) (view (m₀ .words))) (m .board) (view (m .words)) (m .sharing) (m .bytes) (ownOf (m .sharing) tile) tile (G .size)
+    (turns (m .board) (m .words) (m .sharing) (m .bytes) (i .sizes)) (i .there) (w .ledger) (G .inv) ep a (i .answer) .1

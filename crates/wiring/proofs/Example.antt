@@ -37,6 +37,7 @@ use Rattle.command.specs.Local.{crossesPage, outside, localAt}
 use Rattle.delivery.specs.Header.{headerWord, headerBytes}
 use Rattle.delivery.specs.Delivery as delivery
 use Rattle.messages.specs.Send as sending
+use Rattle.credits.specs.Room.{roomFor}
 use Rattle.messages.specs.Reply as replying
 use Rattle.receive.specs.Fetch as fetching
 use Rattle.wiring.specs.Ledger.{Held, nothing, request, reply, holds}
@@ -115,7 +116,7 @@ record Shown : Type 0 where
   full : answerOf (end .machine) (given 1 1 8 16 65535) ≡ Refused RecvNoSpace
 
 shown : Shown
-unfolding machine check slot-at-end board sendTo receiver session crowded registers given commands end stored putNth wordsNth view fieldsOf endpointAt upd _gives_else_ all search.first boardOf inWord pagesAllowed pagesOf allowed startOf sizeOf bytesOf sizesRight acceptable acceptableWords goodTable machineRight hostChecks left leftBy sharing.wordAt sharing.setAt sharing.requestAt sharing.requestGood sharing.recordGood sharing.sharingGood sharing.foreign sharing.crowded sharing.counted sharing.arrived sharing.taken noted opcodeOf stepOf commandOf putBit findSlot _above_ freeSlot unreadSlot slotNamed rangePast rangeBad filled fetched cleared first _then_ _fails_else_ does _noting_ _▸_ _▸▸_ send_or_gives_ receive_or_gives_ slot_or_gives_ slot_else_gives_ outcome written placed settled carried crossesPage outside localAt headerWord headerBytes delivery.tooLong delivery.messageChecks delivery.farChecks delivery.fitChecks delivery.delivered delivery.arrival delivery.arrivalOf delivery.slotAt delivery.messageTo sending.lastChecks sending.sendChecks sending.sepOf sending.rsizeOf sending.request sending.replyTo sending.withCredits sending.replyPlaced sending.creditSpent sending.sendWrites sending.requestOf sending.SEND replying.fromChecks replying.creditBad replying.replyChecks replying.response replying.creditable replying.credited replying.creditTo replying.creditReturned replying.replyGone replying.slotFreed replying.replyWrites replying.responseOf replying.answerOf replying.REPLY fetching.fetchWrites fetching.FETCH bytes.part bytes.put bytes.bytes bytes.word bytes.header next run tooMany sum share promised senderSound clearOf apartFrom apartAt rangeSound receiverSound endpointSound sound wiringOf
+unfolding machine check slot-at-end board sendTo receiver session crowded registers given commands end stored putNth wordsNth view fieldsOf endpointAt upd _gives_else_ all search.first boardOf inWord pagesAllowed pagesOf allowed startOf sizeOf bytesOf sizesRight acceptable acceptableWords goodTable machineRight hostChecks left leftBy sharing.wordAt sharing.setAt sharing.requestAt sharing.requestGood sharing.recordGood sharing.sharingGood sharing.foreign sharing.crowded sharing.counted sharing.arrived sharing.taken noted opcodeOf stepOf commandOf putBit findSlot _above_ freeSlot unreadSlot slotNamed rangePast rangeBad filled fetched cleared first _then_ _fails_else_ does _noting_ _▸_ _▸▸_ send_or_gives_ receive_or_gives_ slot_or_gives_ slot_else_gives_ outcome written placed settled carried crossesPage outside localAt headerWord headerBytes delivery.tooLong delivery.messageChecks delivery.farChecks delivery.fitChecks delivery.delivered delivery.arrival delivery.arrivalOf delivery.slotAt delivery.messageTo sending.lastChecks sending.sendChecks sending.sepOf sending.rsizeOf sending.request sending.replyTo sending.withCredits sending.replyPlaced sending.creditSpent sending.sendWrites sending.requestOf sending.SEND replying.fromChecks replying.creditBad replying.replyChecks replying.response roomFor replying.creditable replying.credited replying.creditTo replying.creditReturned replying.replyGone replying.slotFreed replying.replyWrites replying.responseOf replying.answerOf replying.REPLY fetching.fetchWrites fetching.FETCH bytes.part bytes.put bytes.bytes bytes.word bytes.header next run tooMany sum share promised senderSound clearOf apartFrom apartAt rangeSound receiverSound endpointSound sound wiringOf
 shown =
     record {
       session-is-sound = refl;

@@ -1,8 +1,9 @@
 -- The invariant of demand 3.
 use Prim.Native.Nat.{ℕ, _+_, _^_, _≤_, _<_}
-use mathlib.Core.Bool.{Bool, true}
+use mathlib.Core.Bool.{Bool, true, cond}
 use mathlib.Core.Logic.{_≢_}
 use mathlib.Core.Path.{_≡_, sym, _∙_}
+use lib.Dec.{eqb}
 use Rattle.bits.specs.Bits.{hasBit}
 use Rattle.endpoint.specs.Kinds.{receiveOf}
 use Rattle.endpoint.specs.declared.SendFields.{SendFields}
@@ -11,10 +12,10 @@ use Rattle.endpoint.specs.declared.Endpoint.the-variants.{Send}
 use Rattle.table.specs.Table.{Table, place}
 use Rattle.wiring.specs.Sums.{sum}
 use Rattle.wiring.specs.Credits.{creditsHeld}
-use Rattle.wiring.specs.Ledger.{Held, nothing, request, Ledger, kept, asks}
+use Rattle.wiring.specs.Ledger.{Held, nothing, request, reply, Ledger, kept, asks}
 use Rattle.wiring.specs.Sound.{beside}
 use Rattle.wiring.proofs.Places.{clash}
-use Rattle.wiring.proofs.Shapes.{Shape, other, sender, receiver, shape, cur}
+use Rattle.wiring.proofs.Shapes.{Shape, other, sender, receiver, shape, cur, most}
 
 -- what never changes: how many places there are, the shape of each, and the credits that each began with
 pub record Net : Type 0 where
@@ -51,12 +52,24 @@ occ x = (receiveOf x) .occupied
 abbrev pub Slots : Net → Table → (ℕ → ℕ → Held) → ℕ → Type 0
 Slots N t last r = (p k : ℕ) → Takes N r p k → (i : ℕ) → i < 2 ^ k → Slot N r p (t (beside r (p + i))) (hasBit (occ (t r)) i) (last r i)
 
--- the requests among the slots of a mask
+-- what the slots of a mask hold, each weighed by w: the requests among them, and those of the sender at place s
+abbrev pub weigh : (Held → ℕ) → ℕ → ℕ → (ℕ → Held) → ℕ
+weigh w k mask last = sum (2 ^ k) (λ i. w (kept (hasBit mask i) (last i)))
+
 abbrev pub among : ℕ → ℕ → (ℕ → Held) → ℕ
-among k mask last = sum (2 ^ k) (λ i. asks (kept (hasBit mask i) (last i)))
+among k mask last = weigh asks k mask last
+
+abbrev pub asksOf : ℕ → Held → ℕ
+asksOf s nothing = 0
+asksOf s (request q) = cond (eqb q s) 1 0
+asksOf s reply = 0
 
 abbrev pub Full : Net → Table → (ℕ → ℕ → Held) → ℕ → Type 0
 Full N t last r = (p k : ℕ) → Takes N r p k → creditsHeld (N .places) t r + among k (occ (t r)) (last r) ≤ 2 ^ k
+
+-- a sender's credits and its requests in the slots are never more than it may have: a reply to one of them finds room for its credit
+abbrev pub Owed : Net → Table → (ℕ → ℕ → Held) → ℕ → Type 0
+Owed N t last r = (s p k : ℕ) → Gives N s r → Takes N r p k → cur (t s) + weigh (asksOf s) k (occ (t r)) (last r) ≤ most (t s)
 
 abbrev pub Books : Net → Table → Ledger → ℕ → Type 0
 Books N t L s = (r : ℕ) → Gives N s r → cur (t s) + L .sent s ≡ N .began s + L .answered s
@@ -66,6 +79,7 @@ pub record Inv (N : Net) (t : Table) (L : Ledger) : Type 0 where
   pub fixed : (q : ℕ) → shape (t q) ≡ N .shape q
   pub slots : (r : ℕ) → Slots N t (L .last) r
   pub full : (r : ℕ) → Full N t (L .last) r
+  pub owed : (r : ℕ) → Owed N t (L .last) r
   pub books : (s : ℕ) → Books N t L s
 
 -- ---- places told apart by their shapes

@@ -20,8 +20,8 @@ use Rattle.wiring.specs.Sound.{beside}
 use Rattle.wiring.proofs.Places.{clash, same?, everywhere, upd-case}
 use Rattle.wiring.proofs.SumLaws.{sum-le, sum-at, sum-term}
 use Rattle.wiring.proofs.SlotFacts.{set-here, set-there}
-use Rattle.wiring.proofs.Shapes.{other, shape, cur, held-other, held-recv, held-send, held-away, credits-same, credits-at}
-use Rattle.wiring.proofs.Inv.{Net, Takes, Gives, Slot, occ, among, Slots, Full, Books, Inv, recv≢other, recv≢send, send≢other, same-rpl, same-slots, slot-x}
+use Rattle.wiring.proofs.Shapes.{other, shape, cur, most, held-other, held-recv, held-send, held-away, credits-same, credits-at}
+use Rattle.wiring.proofs.Inv.{Net, Takes, Gives, Slot, occ, weigh, among, asksOf, Slots, Full, Owed, Books, Inv, recv≢other, recv≢send, send≢other, same-rpl, same-slots, slot-x}
 
 -- slot j of the receiver r stays in g as it is, or becomes free and has no reply endpoint
 abbrev pub Less : Table → ℕ → ℕ → ReceiveFields → ℕ → Type 0
@@ -29,10 +29,11 @@ Less t r p g j =
     (hasBit (g .occupied) j ≡ hasBit (occ (t r)) j)
     ⊎ ((hasBit (g .occupied) j ≡ false) × (p ≢ 65535 → (f : SendFields) → t (beside r (p + j)) ≢ Send f))
 
-pub less-asks : (t : Table) (r p : ℕ) (g : ReceiveFields) (j : ℕ) (h : Held) → Less t r p g j
-    → asks (kept (hasBit (g .occupied) j) h) ≤ asks (kept (hasBit (occ (t r)) j) h)
-less-asks t r p g j h (inl e) = rw e (le-refl _)
-less-asks t r p g j h (inr z) = rw (z .0) zero-le
+-- and weighs no more than before, where nothing weighs nothing
+pub less-weight : (w : Held → ℕ) → w nothing ≡ 0 → (t : Table) (r p : ℕ) (g : ReceiveFields) (j : ℕ) (h : Held) → Less t r p g j
+    → w (kept (hasBit (g .occupied) j) h) ≤ w (kept (hasBit (occ (t r)) j) h)
+less-weight w none t r p g j h (inl e) = rw e (le-refl _)
+less-weight w none t r p g j h (inr z) = rw (z .0, none) zero-le
 
 module _ {N : Net} {t : Table} {L : Ledger} (I : Inv N t L) where
   -- a write to a receiver or a sender leaves the reply ranges alone
@@ -51,6 +52,7 @@ module _ {N : Net} {t : Table} {L : Ledger} (I : Inv N t L) where
         fixed = upd-case t q v (λ j x. shape x ≡ N .shape j) (ov ∙ sym o) (λ j d. I .fixed j);
         slots = λ r p k R i l. rw (upd-off t q v r (recv≢other R q o)) (slots R i l (same? (beside r (p + i)) q));
         full = λ r p k R. rw (upd-off t q v r (recv≢other R q o), credits-same (N .places) t q v r (held-other r v ov ∙ sym (held-other r (t q) (I .fixed q ∙ o)))) (I .full r p k R);
+        owed = λ r s p k G R. rw (upd-off t q v r (recv≢other R q o), upd-off t q v s (send≢other G q o)) (I .owed r s p k G R);
         books = λ s r G. rw (upd-off t q v s (send≢other G q o)) (I .books s r G);
       }
     where
@@ -71,8 +73,9 @@ module _ {N : Net} {t : Table} {L : Ledger} (I : Inv N t L) where
       → ((j : ℕ) → j ≢ r → last j ≡ L .last j)
       → ((i : ℕ) → i < 2 ^ k → Slot N r p (t (beside r (p + i))) (hasBit (g .occupied) i) (last r i))
       → creditsHeld (N .places) t r + among k (g .occupied) (last r) ≤ 2 ^ k
+      → ((s : ℕ) → Gives N s r → cur (t s) + weigh (asksOf s) k (g .occupied) (last r) ≤ most (t s))
       → Inv N (upd t r (Receive g)) (record { last = last; sent = L .sent; answered = L .answered })
-  move-recv {r} {p} {k} R g last hg old new load =
+  move-recv {r} {p} {k} R g last hg old new load owes =
       record {
         wires = I .wires;
         fixed = upd-case t r (Receive g) (λ j x. shape x ≡ N .shape j) hg (λ j d. I .fixed j);
@@ -84,6 +87,10 @@ module _ {N : Net} {t : Table} {L : Ledger} (I : Inv N t L) where
             everywhere (Full N t′ last) r
             (λ p′ k′ R′. rw (upd-at t r (Receive g) r refl, same-slots R′ R, credits-same (N .places) t r (Receive g) r (none r)) load)
             (λ j d p′ k′ R′. rw (upd-off t r (Receive g) j d, old j d, credits-same (N .places) t r (Receive g) j (none j)) (I .full j p′ k′ R′));
+        owed =
+            everywhere (Owed N t′ last) r
+            (λ s p′ k′ G R′. rw (upd-off t r (Receive g) s (λ e. recv≢send R G (sym e)), upd-at t r (Receive g) r refl, same-slots R′ R) (owes s G))
+            (λ j d s p′ k′ G R′. rw (upd-off t r (Receive g) s (λ e. recv≢send R G (sym e)), upd-off t r (Receive g) j d, old j d) (I .owed j s p′ k′ G R′));
         books = λ s a G. rw (upd-off t r (Receive g) s (λ e. recv≢send R G (sym e))) (I .books s a G);
       }
     where
@@ -101,8 +108,9 @@ module _ {N : Net} {t : Table} {L : Ledger} (I : Inv N t L) where
       → ((j : ℕ) → j ≢ s → (sent j ≡ L .sent j) × (answered j ≡ L .answered j))
       → f .«cur_crd» + sent s ≡ N .began s + answered s
       → ((p k : ℕ) → Takes N r p k → creditsHeld (N .places) t r + f .«cur_crd» + among k (occ (t r)) (L .last r) ≤ 2 ^ k + cur (t s))
+      → ((p k : ℕ) → Takes N r p k → f .«cur_crd» + weigh (asksOf s) k (occ (t r)) (L .last r) ≤ f .«max_crd»)
       → Inv N (upd t s (Send f)) (record { last = L .last; sent = sent; answered = answered })
-  move-send {s} {r} G f sent answered hf old book load =
+  move-send {s} {r} G f sent answered hf old book load owes =
       record {
         wires = I .wires;
         fixed = upd-case t s (Send f) (λ j x. shape x ≡ N .shape j) hf (λ j d. I .fixed j);
@@ -112,6 +120,7 @@ module _ {N : Net} {t : Table} {L : Ledger} (I : Inv N t L) where
             (λ p k R. rw (upd-off t s (Send f) r (recv≢send R G))
             (omega (arith, load p k R, credits-at (N .places) t s (Send f) r (G .there), held-send r (Send f) (hf ∙ G .is), held-send r (t s) (I .fixed s ∙ G .is))))
             (λ j d p k R. rw (upd-off t s (Send f) j (recv≢send R G), credits-same (N .places) t s (Send f) j (held-away j (Send f) (hf ∙ G .is) d ∙ sym (held-away j (t s) (I .fixed s ∙ G .is) d))) (I .full j p k R));
+        owed = λ a s′ p k G′ R. rw (upd-off t s (Send f) a (recv≢send R G)) (owed a s′ p k G′ R (same? s′ s));
         books =
             everywhere (Books N t′ (record { last = L .last; sent = sent; answered = answered })) s
             (λ a G′. rw (upd-at t s (Send f) s refl) book)
@@ -124,18 +133,26 @@ module _ {N : Net} {t : Table} {L : Ledger} (I : Inv N t L) where
       plain : N .shape s ≢ other
       plain e = clash (cc (G .is))
 
+      owed : (a s′ p k : ℕ) → Gives N s′ a → Takes N a p k → (s′ ≡ s) ⊎ (s′ ≢ s) → cur (t′ s′) + weigh (asksOf s′) k (occ (t a)) (L .last a) ≤ most (t′ s′)
+      owed a s′ p k G′ R (inr d) = rw (upd-off t s (Send f) s′ d) (I .owed a s′ p k G′ R)
+      owed a s′ p k G′ R (inl e) =
+          let ea : a ≡ r = cc (G .is, rw e at (G′ .is)) in
+          rw (upd-at t s (Send f) s′ e, e, ea) (owes p k (rw ea at R))
+
   -- slot i, which was free, takes the message m: a reply, or a request of a sender that aims here, if there is room for one more
   pub occupy : {r p k : ℕ} (R : Takes N r p k) (i : ℕ) (g : ReceiveFields) (m : Held) → t r ≡ Receive g → i < 2 ^ k → hasBit (g .occupied) i ≡ false
       → m ≢ nothing
       → ((s : ℕ) → m ≡ request s → Gives N s r)
       → creditsHeld (N .places) t r + among k (g .occupied) (L .last r) + asks m ≤ 2 ^ k
+      → ((s : ℕ) → Gives N s r → cur (t s) + weigh (asksOf s) k (g .occupied) (L .last r) + asksOf s m ≤ most (t s))
       → Inv N (upd t r (Receive (filled g i))) (record { last = stow (L .last) r i m; sent = L .sent; answered = L .answered })
   unfolding filled shape
-  occupy {r} {p} {k} R i g m hg li z real from load =
+  occupy {r} {p} {k} R i g m hg li z real from load owes =
       move-recv R (filled g i) (stow (L .last) r i m) (sym (ap shape hg) ∙ I .fixed r)
       (λ j d. upd-off (L .last) r (upd (L .last r) i m) j d)
       (λ j l. rw (upd-at (L .last) r (upd (L .last r) i m) r refl) (slot j l (same? j i)))
-      (rw (upd-at (L .last) r (upd (L .last r) i m) r refl) (omega (arith, load, count)))
+      (rw (upd-at (L .last) r (upd (L .last r) i m) r refl) (omega (arith, load, count asks refl)))
+      (λ s G. rw (upd-at (L .last) r (upd (L .last r) i m) r refl) (omega (arith, owes s G, count (asksOf s) refl)))
     where
       old : (j : ℕ) → j < 2 ^ k → Slot N r p (t (beside r (p + j))) (hasBit (g .occupied) j) (L .last r j)
       old j l = rw (ap occ hg) at (I .slots r p k R j l)
@@ -146,16 +163,13 @@ module _ {N : Net} {t : Table} {L : Ledger} (I : Inv N t L) where
           rw (upd-at (L .last r) i m j e, e, set-here (g .occupied) i)
           record { real = λ b. real; from = from; link = λ np f q. clash (cc (rw z at (old i li .link np f q .0))) }
 
-      now : ℕ → ℕ
-      now j = asks (kept (hasBit (putBit (g .occupied) i 1) j) (upd (L .last r) i m j))
-
-      before : ℕ → ℕ
-      before j = asks (kept (hasBit (g .occupied) j) (L .last r j))
-
-      count : sum (2 ^ k) now ≡ sum (2 ^ k) before + asks m
-      count =
-          let was : before i ≡ 0 = rw z in
-          let is : now i ≡ asks m = rw (set-here (g .occupied) i, upd-at (L .last r) i m i refl) in
+      -- the slots weigh more by the message
+      count : (w : Held → ℕ) → w nothing ≡ 0 → weigh w k (putBit (g .occupied) i 1) (upd (L .last r) i m) ≡ weigh w k (g .occupied) (L .last r) + w m
+      count w none =
+          let now : ℕ → ℕ = λ j. w (kept (hasBit (putBit (g .occupied) i 1) j) (upd (L .last r) i m j)) in
+          let before : ℕ → ℕ = λ j. w (kept (hasBit (g .occupied) j) (L .last r j)) in
+          let was : before i ≡ 0 = rw z none in
+          let is : now i ≡ w m = rw (set-here (g .occupied) i, upd-at (L .last r) i m i refl) in
           omega (arith, sum-at (2 ^ k) i now before li (λ j d. rw (set-there (g .occupied) i j d, upd-off (L .last r) i m j d)), was, is)
 
   -- slots are given back
@@ -163,8 +177,12 @@ module _ {N : Net} {t : Table} {L : Ledger} (I : Inv N t L) where
       → Inv N (upd t r (Receive g)) L
   release {r} {p} {k} R g hg less =
       move-recv R g (L .last) hg (λ j d. refl) (λ j l. slot j l (less j l))
-      (omega (arith, I .full r p k R, sum-le (2 ^ k) (λ j. asks (kept (hasBit (g .occupied) j) (L .last r j))) (λ j. asks (kept (hasBit (occ (t r)) j) (L .last r j))) (λ j l. less-asks t r p g j (L .last r j) (less j l))))
+      (omega (arith, I .full r p k R, lighter asks refl))
+      (λ s G. omega (arith, I .owed r s p k G R, lighter (asksOf s) refl))
     where
+      lighter : (w : Held → ℕ) → w nothing ≡ 0 → weigh w k (g .occupied) (L .last r) ≤ weigh w k (occ (t r)) (L .last r)
+      lighter w none = sum-le (2 ^ k) _ _ (λ j l. less-weight w none t r p g j (L .last r j) (less j l))
+
       slot : (j : ℕ) → j < 2 ^ k → Less t r p g j → Slot N r p (t (beside r (p + j))) (hasBit (g .occupied) j) (L .last r j)
       slot j l (inl e) = rw e (I .slots r p k R j l)
       slot j l (inr z) = rw (z .0) record { real = λ d. clash (cc); from = λ s q. clash (cc q); link = λ np f q. absurd (z .1 np f q) }

@@ -71,9 +71,12 @@ share-is f r (Send s) = go (sends s) (eqb (place (s .«tgt_tile») (s .«tgt_ep�
 share-is f r (Receive g) = refl
 share-is f r (Memory m) = refl
 
--- the credits that an endpoint has
+-- the credits that an endpoint has, and those that it may have
 abbrev pub cur : Endpoint → ℕ
 cur x = (sendOf x) .«cur_crd»
+
+abbrev pub most : Endpoint → ℕ
+most x = (sendOf x) .«max_crd»
 
 pub held-other : (r : ℕ) (x : Endpoint) → shape x ≡ other → held r x ≡ 0
 held-other r x h = rw (share-is (λ s. s .«cur_crd») r x, h)

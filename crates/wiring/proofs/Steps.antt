@@ -5,6 +5,7 @@ use mathlib.Core.Logic.{_≢_, _⊎_, inl, inr}
 use mathlib.Core.Path.{_≡_, refl, sym, ap, _∙_}
 use native.Mathlib.Nat.{le-refl}
 use native.Mathlib.Omega.{arith}
+use borrow.Author.Tests.{eq-eqb, ne-eqb}
 use Rattle.bits.specs.Bits.{hasBit, putBit}
 use Rattle.endpoint.specs.Kinds.{sendOf}
 use Rattle.endpoint.specs.declared.SendFields.{SendFields}
@@ -16,14 +17,17 @@ use Rattle.table.proofs.TableLaws.{upd-at, upd-off}
 use Rattle.slots.specs.Slots.{slotsOf, filled, fetched, cleared}
 use Rattle.messages.specs.Send.{withCredits}
 use Rattle.wiring.specs.Credits.{creditsHeld}
-use Rattle.wiring.specs.Ledger.{request, reply, Ledger, kept, stow, nextSlot}
+use Rattle.wiring.specs.Ledger.{Held, nothing, request, reply, Ledger, kept, asks, stow, nextSlot}
 use Rattle.wiring.specs.Sound.{beside}
 use Rattle.wiring.proofs.Places.{clash, same?, upd-comm}
-use Rattle.wiring.proofs.SumLaws.{sum-lt}
+use Rattle.wiring.proofs.SumLaws.{sum-term, sum-lt}
 use Rattle.wiring.proofs.SlotFacts.{set-here, set-there, clear-here, clear-there}
-use Rattle.wiring.proofs.Shapes.{other, shape, cur, is-sender, held-recv, held-send, credits-same, credits-at}
-use Rattle.wiring.proofs.Inv.{Net, Takes, Gives, occ, among, Inv, recv≢other, recv≢send, send≢other, same-slots}
-use Rattle.wiring.proofs.Moves.{Less, less-asks, move-other, move-send, remove, occupy, release}
+use Rattle.wiring.proofs.Shapes.{other, shape, cur, most, is-sender, held-recv, held-send, credits-same, credits-at}
+use Rattle.wiring.proofs.Inv.{Net, Takes, Gives, occ, weigh, among, asksOf, Inv, recv≢other, recv≢send, send≢other, same-slots}
+use Rattle.wiring.proofs.Moves.{Less, less-weight, move-other, move-send, remove, occupy, release}
+
+own-request : (s : ℕ) → asksOf s (request s) ≡ 1
+own-request s = rw (eq-eqb s s refl)
 
 -- ---- SEND by f at s to g at r, whose reply endpoint would be v
 pub record Sending (N : Net) (t : Table) (s r : ℕ) (f : SendFields) (g : ReceiveFields) (v : SendFields) : Type 0 where
@@ -77,6 +81,20 @@ module _ {N : Net} {t : Table} {L : Ledger} (I : Inv N t L) where
         (λ j d. (upd-off (L .sent) s (L .sent s + 1) j d, refl))
         (rw (upd-at (L .sent) s (L .sent s + 1) s refl) (omega (arith, I .books s r (C .feeds), ap cur (C .src), C .some)))
         (λ p k T. omega (arith, I .full r p k T, ap cur (C .src)))
+        (λ p k T. omega (arith, I .owed r s p k (C .feeds) T, ap cur (C .src), ap most (C .src)))
+
+    -- it is the message's sender that has one request more
+    owes : (x : ℕ) → Gives N x r → cur (upd t s F x) + weigh (asksOf x) (g .slots) (g .occupied) (L .last r) + asksOf x (request s) ≤ most (upd t s F x)
+    unfolding withCredits
+    owes x X = go (same? x s)
+      where
+        was : cur (t x) + weigh (asksOf x) (g .slots) (g .occupied) (L .last r) ≤ most (t x)
+        was = rw (ap occ (C .dst)) at (I .owed r x (g .«rpl_eps») (g .slots) X R)
+
+        go : (x ≡ s) ⊎ (x ≢ s) → cur (upd t s F x) + weigh (asksOf x) (g .slots) (g .occupied) (L .last r) + asksOf x (request s) ≤ most (upd t s F x)
+        go (inr d) = rw (upd-off t s F x d, ne-eqb s x (λ e. d (sym e))) (omega (arith, was))
+        go (inl e) =
+            rw (upd-at t s F x e, eq-eqb s x (sym e)) (omega (arith, was, ap cur (ap t e ∙ C .src), ap most (ap t e ∙ C .src), C .some))
 
     came : Inv N (upd (upd t s F) r G) L₂
     unfolding withCredits
@@ -92,6 +110,7 @@ module _ {N : Net} {t : Table} {L : Ledger} (I : Inv N t L) where
           ap cur (C .src),
           C .some,
         ))
+        owes
 
     in-range : g .«rpl_eps» ≢ 65535 → N .shape q ≡ other
     in-range np = I .wires .range R np (nextSlot g) (C .room) .1
@@ -188,11 +207,19 @@ module _ {N : Net} {t : Table} {L : Ledger} (I : Inv N t L) {r i r′ : ℕ} {g 
   pub sender-is : Gives N s r
   sender-is = I .slots r p k Rr i (C .low) .from s (named-by .0)
 
+  -- so there is room for its credit
+  pub short : cur (t s) < most (t s)
+  short =
+      let here : ℕ → ℕ = λ j. asksOf s (kept (hasBit (occ (t r)) j) (L .last r j)) in
+      let one : here i ≡ 1 = rw (named-by .0) (own-request s) in
+      omega (arith, I .owed r s p k sender-is Rr, sum-term (2 ^ k) i here (C .low), one)
+
   -- first the reply comes in, then the reply endpoint goes, then the slot, then the credit
   I₁ : Inv N t₁ M
   I₁ =
       occupy I R′ i′ g′ reply (C .dst) (C .room) (C .free)
       (λ e. clash (cc e)) (λ x e. clash (cc e)) (omega (arith, rw (ap occ (C .dst)) at (I .full r′ (g′ .«rpl_eps») (g′ .slots) R′)))
+      (λ x X. omega (arith, rw (ap occ (C .dst)) at (I .owed r′ x (g′ .«rpl_eps») (g′ .slots) X R′)))
 
   I₂ : Inv N t₂ M
   I₂ = remove I₁ κ hκ
@@ -232,11 +259,11 @@ module _ {N : Net} {t : Table} {L : Ledger} (I : Inv N t L) {r i r′ : ℕ} {g 
   I₃ = release I₂ Rr (cleared g i) shapeK less
 
   -- slot i is counted before, and not after
-  fewer : among k (putBit (g .occupied) i 0) (M .last r) < among k (occ (t₂ r)) (M .last r)
+  fewer : (w : Held → ℕ) → w nothing ≡ 0 → w (request s) ≡ 1 → weigh w k (putBit (g .occupied) i 0) (M .last r) < weigh w k (occ (t₂ r)) (M .last r)
   unfolding cleared
-  fewer =
-      sum-lt (2 ^ k) i _ _ (C .low) (λ j l. less-asks t₂ r p (cleared g i) j (M .last r j) (less j l))
-      (rw (t₂r, clear-here (g .occupied) i, link .0) (le-refl 1))
+  fewer w none one =
+      sum-lt (2 ^ k) i _ _ (C .low) (λ j l. less-weight w none t₂ r p (cleared g i) j (M .last r j) (less j l))
+      (rw (t₂r, clear-here (g .occupied) i, link .0, none, one) (le-refl 1))
     where
       link : (kept (hasBit (occ (t₁ r)) i) (M .last r i) ≡ request s) × (f .«crd_ep» < 64)
       link = I₁ .slots r p k Rr i (C .low) .link (C .ranged) f (upd-off t r′ G′ κ (λ e. recv≢other R′ κ hκ (sym e)) ∙ C .by)
@@ -261,8 +288,16 @@ module _ {N : Net} {t : Table} {L : Ledger} (I : Inv N t L) {r i r′ : ℕ} {g 
       (move-send I₃ sender-is (withCredits (sendOf (t s)) (cur (t s) + 1)) (L .sent) (upd (L .answered) s (L .answered s + 1)) shapeH
       (λ j d. (refl, upd-off (L .answered) s (L .answered s + 1) j d))
       (rw (upd-at (L .answered) s (L .answered s + 1) s refl) (omega (arith, I .books s r sender-is)))
-      load)
+      load owes)
     where
+      t₂s : t₂ s ≡ t s
+      t₂s = upd-off t₁ κ Invalid s s≢κ ∙ upd-off t r′ G′ s s≢r′
+
+      owes : (p′ k′ : ℕ) → Takes N r p′ k′ → cur (t s) + 1 + weigh (asksOf s) k′ (occ (upd t₂ r K r)) (M .last r) ≤ most (t s)
+      owes p′ k′ T =
+          rw (same-slots T Rr, upd-at t₂ r K r refl)
+          (omega (arith, rw t₂s at (I₂ .owed r s p k sender-is Rr), fewer (asksOf s) refl (own-request s)))
+
       load : (p′ k′ : ℕ) → Takes N r p′ k′
           → creditsHeld (N .places) (upd t₂ r K) r + (cur (t s) + 1) + among k′ (occ (upd t₂ r K r)) (M .last r) ≤ 2 ^ k′ + cur (upd t₂ r K s)
       load p′ k′ T =
@@ -273,7 +308,7 @@ module _ {N : Net} {t : Table} {L : Ledger} (I : Inv N t L) {r i r′ : ℕ} {g 
             same-slots T Rr,
             upd-at t₂ r K r refl,
             credits-same (N .places) t₂ r K r (held-recv r K (shapeK ∙ Rr .is) ∙ sym (held-recv r (t₂ r) (I₂ .fixed r ∙ Rr .is))),
-          ) (omega (arith, I₂ .full r p k Rr, fewer))
+          ) (omega (arith, I₂ .full r p k Rr, fewer asks refl refl))
 
 -- ---- FETCH and ACK_MSG on g at r
 module _ {N : Net} {t : Table} {L : Ledger} (I : Inv N t L) {r : ℕ} {g : ReceiveFields} (there : r < N .places) (src : t r ≡ Receive g) (i : ℕ) where

@@ -5,3 +5,4 @@ pub mod Sound
 pub mod Wiring
 pub mod Run
 pub mod Demand3
+pub mod Room

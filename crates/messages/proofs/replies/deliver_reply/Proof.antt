@@ -33,7 +33,7 @@ deliver-reply-spec =
     let z = start .pre .3 in
     let found = c .before .before .before .before .before .before .before .before .before .before .before .before .before .find-target .ensures in
     let there = c .before .before .before .before .before .before .before .before .before .before .before .receiver .given .1 in
-    (own-words _ _ _ (start .pre .0), z .from, z .slot, z .reach, landed _ _ _ _ _ _ _ _ _ (start .pre .0) found there, may-credit _ _ _ _ _ _ _ _ _ _ _ _ _ _ (start .pre .0) z found there (c .before .before .before .before .before .before .before .before .before .response-header .ensures) (c .before .before .before .before .before .endpoint-at .ensures)))
+    (own-words _ _ _ (start .pre .0), z .from, z .slot, z .reach, landed _ _ _ _ _ _ _ _ _ (start .pre .0) found there, may-credit _ _ _ _ _ _ _ _ z (c .before .before .before .before .before .before .before .before .before .response-header .ensures)))
     (λ c κs. search needs)
     (λ c κs. c .before .before .before .before .before .before .before .before .before .before .before .before .before .before .before .before .before .before .before .before .before .before .pre .3 .slot)
     (λ c. search needs)
