@@ -178,10 +178,7 @@ fn respond(name: &[u8], words: &Table, sharing: &mut Sharing, mem: &Memory) {
     line(done, words, sharing, mem);
 }
 
-// ---- the session
-
-// Both get messages; only the vault, whose turn it is, has its own counted.
-fn vault_runs(words: &mut Table, sharing: &mut Sharing, mem: &mut Memory) {
+fn send_to_vault(words: &mut Table, sharing: &mut Sharing, mem: &mut Memory) {
     command(
         b"SEND vault      ",
         words,
@@ -191,6 +188,9 @@ fn vault_runs(words: &mut Table, sharing: &mut Sharing, mem: &mut Memory) {
         SEND,
         TO_VAULT,
     );
+}
+
+fn send_to_logger(words: &mut Table, sharing: &mut Sharing, mem: &mut Memory) {
     command(
         b"SEND logger     ",
         words,
@@ -200,24 +200,9 @@ fn vault_runs(words: &mut Table, sharing: &mut Sharing, mem: &mut Memory) {
         SEND,
         TO_LOGGER,
     );
-    command(
-        b"SEND logger     ",
-        words,
-        sharing,
-        mem,
-        GATE,
-        SEND,
-        TO_LOGGER,
-    );
-    command(
-        b"SEND logger     ",
-        words,
-        sharing,
-        mem,
-        GATE,
-        SEND,
-        TO_LOGGER,
-    );
+}
+
+fn vault_fetches(words: &mut Table, sharing: &mut Sharing, mem: &mut Memory) {
     command(
         b"FETCH vault     ",
         words,
@@ -227,6 +212,9 @@ fn vault_runs(words: &mut Table, sharing: &mut Sharing, mem: &mut Memory) {
         FETCH,
         TO_VAULT,
     );
+}
+
+fn logger_fetches(words: &mut Table, sharing: &mut Sharing, mem: &mut Memory) {
     command(
         b"FETCH logger    ",
         words,
@@ -236,6 +224,46 @@ fn vault_runs(words: &mut Table, sharing: &mut Sharing, mem: &mut Memory) {
         FETCH,
         TO_LOGGER,
     );
+}
+
+fn vault_frees(words: &mut Table, sharing: &mut Sharing, mem: &mut Memory) {
+    command(
+        b"ACK_MSG vault   ",
+        words,
+        sharing,
+        mem,
+        SHARED,
+        ACK_MSG,
+        TO_VAULT,
+    );
+}
+
+fn logger_frees(words: &mut Table, sharing: &mut Sharing, mem: &mut Memory) {
+    command(
+        b"ACK_MSG logger  ",
+        words,
+        sharing,
+        mem,
+        SHARED,
+        ACK_MSG,
+        TO_LOGGER,
+    );
+}
+
+fn response(words: &Table, sharing: &mut Sharing, mem: &Memory) {
+    respond(b"response        ", words, sharing, mem);
+}
+
+// ---- the session
+
+// Both get messages; only the vault, whose turn it is, has its own counted.
+fn vault_runs(words: &mut Table, sharing: &mut Sharing, mem: &mut Memory) {
+    send_to_vault(words, sharing, mem);
+    send_to_logger(words, sharing, mem);
+    send_to_logger(words, sharing, mem);
+    send_to_logger(words, sharing, mem);
+    vault_fetches(words, sharing, mem);
+    logger_fetches(words, sharing, mem);
 }
 
 // The logger's turn, with the two messages that it had; then the vault is the one that is told of.
@@ -248,37 +276,13 @@ fn logger_runs(words: &mut Table, sharing: &mut Sharing, mem: &mut Memory) {
         XCHG_ACT,
         LOGGER + 2 * 65536,
     );
-    respond(b"response        ", words, sharing, mem);
-    command(
-        b"FETCH logger    ",
-        words,
-        sharing,
-        mem,
-        SHARED,
-        FETCH,
-        TO_LOGGER,
-    );
-    command(
-        b"ACK_MSG logger  ",
-        words,
-        sharing,
-        mem,
-        SHARED,
-        ACK_MSG,
-        TO_LOGGER,
-    );
-    command(
-        b"SEND vault      ",
-        words,
-        sharing,
-        mem,
-        GATE,
-        SEND,
-        TO_VAULT,
-    );
-    respond(b"response        ", words, sharing, mem);
-    respond(b"response        ", words, sharing, mem);
-    respond(b"response        ", words, sharing, mem);
+    response(words, sharing, mem);
+    logger_fetches(words, sharing, mem);
+    logger_frees(words, sharing, mem);
+    send_to_vault(words, sharing, mem);
+    response(words, sharing, mem);
+    response(words, sharing, mem);
+    response(words, sharing, mem);
 }
 
 // The count goes round at 65,536, both ways.
@@ -291,24 +295,8 @@ fn count_turns(words: &mut Table, sharing: &mut Sharing, mem: &mut Memory) {
         XCHG_ACT,
         LOGGER + 65535 * 65536,
     );
-    command(
-        b"SEND logger     ",
-        words,
-        sharing,
-        mem,
-        GATE,
-        SEND,
-        TO_LOGGER,
-    );
-    command(
-        b"FETCH logger    ",
-        words,
-        sharing,
-        mem,
-        SHARED,
-        FETCH,
-        TO_LOGGER,
-    );
+    send_to_logger(words, sharing, mem);
+    logger_fetches(words, sharing, mem);
 }
 
 // A message for the logger while the vault runs; the logger then frees its slot. Nobody responds.
@@ -341,53 +329,13 @@ fn queue_fills(words: &mut Table, sharing: &mut Sharing, mem: &mut Memory) {
     privileged(b"XCHG_ACT vault  ", words, sharing, mem, XCHG_ACT, VAULT);
     say(b"63 for the logger, each acknowledged\n");
     fill(words, sharing, mem);
-    command(
-        b"SEND logger     ",
-        words,
-        sharing,
-        mem,
-        GATE,
-        SEND,
-        TO_LOGGER,
-    );
+    send_to_logger(words, sharing, mem);
     one_more(words, sharing, mem);
-    command(
-        b"SEND logger     ",
-        words,
-        sharing,
-        mem,
-        GATE,
-        SEND,
-        TO_LOGGER,
-    );
-    command(
-        b"ACK_MSG vault   ",
-        words,
-        sharing,
-        mem,
-        SHARED,
-        ACK_MSG,
-        TO_VAULT,
-    );
-    command(
-        b"SEND vault      ",
-        words,
-        sharing,
-        mem,
-        GATE,
-        SEND,
-        TO_VAULT,
-    );
-    respond(b"response        ", words, sharing, mem);
-    command(
-        b"SEND logger     ",
-        words,
-        sharing,
-        mem,
-        GATE,
-        SEND,
-        TO_LOGGER,
-    );
+    send_to_logger(words, sharing, mem);
+    vault_frees(words, sharing, mem);
+    send_to_vault(words, sharing, mem);
+    response(words, sharing, mem);
+    send_to_logger(words, sharing, mem);
 }
 
 // What is refused: a privileged opcode that is none, and every call where a record claims 65 waiting.

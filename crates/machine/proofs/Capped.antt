@@ -33,8 +33,9 @@ use Rattle.command.proofs.CheckFacts.{passed}
 use Rattle.command.proofs.WriteLaws.{by-answer, carried-refused, settled-accepted}
 use Rattle.access.specs.Access.{READ, WRITE}
 use Rattle.delivery.specs.Delivery.{delivered, arrival}
-use Rattle.messages.specs.Send.{replyTo, withCredits, replyPlaced, creditSpent, sendWrites, requestOf, SEND}
+use Rattle.messages.specs.Send.{replyTo, replyPlaced, creditSpent, sendWrites, requestOf, SEND}
 use Rattle.messages.specs.Reply.{creditable, credited, response, creditTo, creditReturned, replyGone, slotFreed, replyWrites, responseOf, answerOf, REPLY}
+use Rattle.credits.specs.Credits.{withCredits}
 use Rattle.credits.specs.Room.{roomFor}
 use Rattle.credits.proofs.RoomLaws.{has-room}
 use Rattle.receive.specs.Fetch.{fetchWrites, FETCH}

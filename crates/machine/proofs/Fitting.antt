@@ -35,17 +35,18 @@ use Rattle.command.specs.declared.Registers.{Registers}
 use Rattle.command.proofs.CheckFacts.{passed}
 use Rattle.command.proofs.WriteLaws.{Fit, Fits}
 use Rattle.delivery.specs.Delivery.{messageChecks, farChecks, fitChecks, delivered, arrival}
-use Rattle.messages.specs.Send.{lastChecks, sendChecks, sepOf, rsizeOf, request, replyTo, withCredits, replyPlaced, creditSpent, sendWrites, requestOf, SEND}
+use Rattle.messages.specs.Send.{lastChecks, sendChecks, sepOf, rsizeOf, request, replyTo, replyPlaced, creditSpent, sendWrites, requestOf, SEND}
 use Rattle.messages.specs.Reply.{fromChecks, replyChecks, response, creditable, credited, creditTo, creditReturned, replyGone, slotFreed, replyWrites, responseOf, answerOf, REPLY}
 use Rattle.delivery.specs.declared.Header.{Header}
 use Rattle.receive.specs.Fetch.{fetchWrites, FETCH}
+use Rattle.credits.specs.Credits.{withCredits}
 use Rattle.credits.specs.Room.{roomFor}
 use Rattle.credits.proofs.RoomLaws.{has-room}
 use Rattle.receive.specs.Ack.{ackChecks, ackWrites, ACK_MSG}
 use Rattle.command.specs.Narrow.{Narrow}
 
 -- ---- kinds
-is-send : (e : Endpoint) → isSend e ≡ true → e ≡ Send (sendOf e)
+pub is-send : (e : Endpoint) → isSend e ≡ true → e ≡ Send (sendOf e)
 is-send Invalid h = cc
 is-send (Send s) h = refl
 is-send (Receive r) h = cc

@@ -15,8 +15,9 @@ use Rattle.command.specs.Command.{does, _noting_, _▸_, _▸▸_, send_or_give
 use Rattle.command.specs.Outcome.{tabled, settled}
 use Rattle.command.specs.Local.{crossesPage, outside}
 use Rattle.delivery.specs.Delivery.{tooLong, messageChecks, farChecks, fitChecks, delivered, arrival}
+use Rattle.credits.specs.Credits.{withCredits}
 use Rattle.credits.specs.Room.{roomFor}
-use Rattle.messages.specs.Send.{lastChecks, sendChecks, sepOf, rsizeOf, request, replyTo, withCredits, replyPlaced, creditSpent, sendWrites, requestOf, SEND}
+use Rattle.messages.specs.Send.{lastChecks, sendChecks, sepOf, rsizeOf, request, replyTo, replyPlaced, creditSpent, sendWrites, requestOf, SEND}
 use Rattle.messages.specs.Reply.{fromChecks, creditBad, replyChecks, response, creditable, credited, creditTo, creditReturned, replyGone, slotFreed, replyWrites, responseOf, answerOf, REPLY}
 use Rattle.receive.specs.Fetch.{fetchWrites, FETCH}
 use Rattle.receive.specs.Ack.{ackChecks, ackWrites, ACK_MSG}

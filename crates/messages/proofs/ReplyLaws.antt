@@ -7,8 +7,6 @@ use mathlib.Core.Path.{_≡_, sym, ap, _∙_}
 use native.Mathlib.Omega.{arith}
 use types.Run.{OneOf}
 use denote.Enum.Declared.{tagOf}
-use mir.Syntax.{w8}
-use mir.Val.{Fits}
 use borrow.Author.Tests.{ne-eqb, leb-false, not-true, not-false}
 use Rattle.numbers.specs.Choice.{_gives_else_}
 use Rattle.numbers.specs.Tests.{All}
@@ -45,10 +43,9 @@ use Rattle.delivery.specs.Stowing.{Stowed}
 use Rattle.delivery.specs.declared.Header.{Header}
 use Rattle.delivery.specs.declared.Target.{Target}
 use Rattle.delivery.specs.declared.Target.the-variants.{To}
-use Rattle.messages.specs.Send.{withCredits}
 use Rattle.messages.specs.Reply.{fromChecks, creditBad, replyChecks, response, creditable, credited, creditTo, creditReturned, replyGone, slotFreed, replyWrites, answerOf}
+use Rattle.credits.specs.Credits.{more}
 use Rattle.credits.specs.Room.{roomFor}
-use Rattle.credits.proofs.RoomLaws.{has-room}
 use Rattle.messages.specs.Ready.{Replyable, Creditable, Named}
 use Rattle.messages.proofs.MessageLaws.{short, tile-small, stowable}
 
@@ -105,10 +102,8 @@ pub may-credit : (b : Board) (tile ep i : ℕ) (g : ReceiveFields) (s : SendFiel
 unfolding response
 may-credit b tile ep i g s a h z k = record { there = λ d. rw k (z .credit-in (λ w. d (rw k w))) }
 
-pub credit-fits : (f : SendFields) (r : Bool) → r ≡ roomFor f → not r ≡ false → Fits w8 (f .«cur_crd» + 1)
-credit-fits f r e h =
-    let l = has-room f (sym e ∙ not-false r h) .1 .0 in
-    record { fits = omega arith }
+pub room-there : (f : SendFields) (r : Bool) → r ≡ roomFor f → not r ≡ false → roomFor f ≡ true
+room-there f r e h = sym e ∙ not-false r h
 
 -- the two ways of a `let Endpoint::Send(f) = x else { .. }`
 pub creditable-not : (x : Endpoint) → OneOf (0 ∷ 2 ∷ 3 ∷ []) (tagOf endpoint-type.the-type x) → creditable x ≡ false
@@ -123,7 +118,7 @@ pub creditable-more : (x : Endpoint) (f : SendFields) (r : Bool) → x ≡ Send 
 unfolding creditable
 creditable-more x f r p e h = rw (p, ← e, not-false r h)
 
-pub credits-more : (x : Endpoint) (f m : SendFields) → x ≡ Send f → m ≡ withCredits f (f .«cur_crd» + 1) → Send m ≡ credited x
+pub credits-more : (x : Endpoint) (f m : SendFields) → x ≡ Send f → m ≡ more f → Send m ≡ credited x
 unfolding credited
 credits-more x f m p h = rw (p, h)
 

@@ -25,8 +25,8 @@ use Rattle.command.specs.Command.{Command, Write, _⇐_to_, does, _noting_, _�
 use Rattle.command.specs.Local.{outside}
 use Rattle.command.specs.declared.Registers.{Registers}
 use Rattle.delivery.specs.Delivery.{messageChecks, delivered, arrival, arrivalOf, messageTo}
+use Rattle.credits.specs.Credits.{more}
 use Rattle.credits.specs.Room.{roomFor}
-use Rattle.messages.specs.Send.{withCredits}
 use Rattle.delivery.specs.declared.Header.{Header}
 
 -- the checks of the receive endpoint g, in order
@@ -71,7 +71,7 @@ unfoldable pub creditable : Endpoint → Bool
 creditable x = isSend x && roomFor (sendOf x)
 
 unfoldable pub credited : Endpoint → Endpoint
-credited x = Send (withCredits (sendOf x) ((sendOf x) .«cur_crd» + 1))
+credited x = Send (more (sendOf x))
 
 unfoldable pub creditTo : Endpoint → SendFields → Header → Write
 creditTo x s h = (not (eqb (h .rep) 65535) && creditable x) ⇐ credited x to place (s .«tgt_tile») (h .rep)

@@ -3,7 +3,7 @@
 -- is 63, the record read at the start is written back with cur_crd one lower.
 -- The message that came is noted at the receiver's tile.
 -- Mind: the local range is checked for size 0 too; a refused SEND takes no credit.
-use Prim.Native.Nat.{ℕ, _+_, _-_}
+use Prim.Native.Nat.{ℕ, _+_}
 use mathlib.Core.Bool.{Bool, true, false, not, _&&_}
 use mathlib.Core.List.{List, [], _∷_}
 use lib.Dec.{eqb}
@@ -12,6 +12,7 @@ use Rattle.answers.specs.declared.Error.the-variants.{NoSep, SendReplyEp, Forei
 use Rattle.board.specs.declared.Board.{Board}
 use Rattle.endpoint.specs.Kinds.{isReceive, receiveOf}
 use Rattle.endpoint.specs.declared.SendFields.{SendFields}
+use Rattle.credits.specs.Credits.{less}
 use Rattle.endpoint.specs.declared.ReceiveFields.{ReceiveFields}
 use Rattle.endpoint.specs.declared.Endpoint.the-variants.{Send}
 use Rattle.table.specs.Table.{Table, place, endpointAt}
@@ -78,29 +79,13 @@ replyTo r h =
       label = h .rlabel;
     }
 
--- a send endpoint with n credits
-unfoldable pub withCredits : SendFields → ℕ → SendFields
-withCredits s n =
-    record {
-      act = s .act;
-      «cur_crd» = n;
-      «max_crd» = s .«max_crd»;
-      «msg_sz» = s .«msg_sz»;
-      «crd_ep» = s .«crd_ep»;
-      reply = s .reply;
-      «tgt_ep» = s .«tgt_ep»;
-      «tgt_tile» = s .«tgt_tile»;
-      «tgt_chip» = s .«tgt_chip»;
-      label = s .label;
-    }
-
 -- a request with rep not 65535, where rpl_eps is not 65535, writes the reply endpoint at rpl_eps + idx
 unfoldable pub replyPlaced : SendFields → ReceiveFields → ℕ → Header → Write
 replyPlaced s r i h = (not (eqb (h .rep) 65535) && not (eqb (r .«rpl_eps») 65535)) ⇐ Send (replyTo r h) to place (s .«tgt_tile») (r .«rpl_eps» + i)
 
 -- unless cur_crd is 63, the record read at the start is written back with cur_crd one lower
 unfoldable pub creditSpent : ℕ → ℕ → SendFields → Write
-creditSpent tile ep s = not (eqb (s .«cur_crd») 63) ⇐ Send (withCredits s (s .«cur_crd» - 1)) to place tile ep
+creditSpent tile ep s = not (eqb (s .«cur_crd») 63) ⇐ Send (less s) to place tile ep
 
 unfoldable pub sendWrites : ℕ → ℕ → SendFields → ReceiveFields → ℕ → Header → List Write
 sendWrites tile ep s r i h = arrival s r i ∷ replyPlaced s r i h ∷ creditSpent tile ep s ∷ []

@@ -109,7 +109,7 @@ fn return_credit(words: &mut [u64], x: Endpoint, s: SendFields, h: Header)
     if !credits::has_room(f) {
         return;
     }
-    let more = crate::requests::with_credits(f, f.cur_crd + 1);
+    let more = credits::one_more(f);
     table::store(
         words,
         s.tgt_tile as usize,

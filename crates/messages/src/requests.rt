@@ -10,7 +10,7 @@ ghost use Rattle.sharing.specs.Sharing.{Shared};
 ghost use Rattle.command.specs.Checks.{first};
 ghost use Rattle.command.specs.Checked.{Checked};
 ghost use Rattle.command.specs.Outcome.{outcome, written, carried};
-ghost use Rattle.messages.specs.Send.{lastChecks, sendChecks, sepOf, rsizeOf, request, replyTo, withCredits, replyPlaced, creditSpent, sendWrites, requestOf, SEND};
+ghost use Rattle.messages.specs.Send.{lastChecks, sendChecks, sepOf, rsizeOf, request, replyTo, replyPlaced, creditSpent, sendWrites, requestOf, SEND};
 ghost use Rattle.messages.specs.Ready.{Sendable, Landed};
 use answers::Answer;
 use answers::Error;
@@ -131,24 +131,6 @@ fn reply_to(r: ReceiveFields, h: Header) -> SendFields
     }
 }
 
-// A send endpoint with n credits.
-pub fn with_credits(s: SendFields, n: u8) -> SendFields
-    ensures { λ r. ⌜ r ≡ withCredits s n ⌝ }
-{
-    SendFields {
-        act: s.act,
-        cur_crd: n,
-        max_crd: s.max_crd,
-        msg_sz: s.msg_sz,
-        crd_ep: s.crd_ep,
-        reply: s.reply,
-        tgt_ep: s.tgt_ep,
-        tgt_tile: s.tgt_tile,
-        tgt_chip: s.tgt_chip,
-        label: s.label,
-    }
-}
-
 // The reply endpoint is written, where a reply is wanted and there is a range for it.
 fn place_reply(words: &mut [u64], s: SendFields, r: ReceiveFields, i: u32, h: Header)
     requires { ⌜ (s .«tgt_tile» * 192 + 192 ≤ length (now words)) × InReach r i ⌝ }
@@ -177,7 +159,7 @@ fn spend(words: &mut [u64], tile: usize, ep: u64, s: SendFields)
     if s.cur_crd == 63 {
         return;
     }
-    let less = with_credits(s, s.cur_crd - 1);
+    let less = credits::one_less(s);
     table::store(words, tile, ep, Endpoint::Send(less));
 }
 

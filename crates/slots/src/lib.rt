@@ -81,15 +81,10 @@ pub fn fill(r: ReceiveFields, i: u32) -> ReceiveFields
     ensures { λ n. ⌜ n ≡ filled r i ⌝ }
 {
     ReceiveFields {
-        act: r.act,
-        rpl_eps: r.rpl_eps,
-        slots: r.slots,
-        slot_size: r.slot_size,
         wpos: (i + 1) as u8,
-        rpos: r.rpos,
-        buffer: r.buffer,
         occupied: bits::set(r.occupied, i),
         unread: bits::set(r.unread, i),
+        ..r
     }
 }
 
@@ -99,15 +94,9 @@ pub fn fetch(r: ReceiveFields, i: u32) -> ReceiveFields
     ensures { λ n. ⌜ n ≡ fetched r i ⌝ }
 {
     ReceiveFields {
-        act: r.act,
-        rpl_eps: r.rpl_eps,
-        slots: r.slots,
-        slot_size: r.slot_size,
-        wpos: r.wpos,
         rpos: (i + 1) as u8,
-        buffer: r.buffer,
-        occupied: r.occupied,
         unread: bits::clear(r.unread, i),
+        ..r
     }
 }
 
@@ -117,14 +106,8 @@ pub fn give_back(r: ReceiveFields, i: u32) -> ReceiveFields
     ensures { λ n. ⌜ n ≡ cleared r i ⌝ }
 {
     ReceiveFields {
-        act: r.act,
-        rpl_eps: r.rpl_eps,
-        slots: r.slots,
-        slot_size: r.slot_size,
-        wpos: r.wpos,
-        rpos: r.rpos,
-        buffer: r.buffer,
         occupied: bits::clear(r.occupied, i),
         unread: bits::clear(r.unread, i),
+        ..r
     }
 }

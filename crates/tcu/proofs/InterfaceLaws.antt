@@ -1,13 +1,16 @@
 -- What a C caller gets follows from what the library's call comes to. Assumes nothing.
 use Prim.Native.Nat.{ℕ}
-use mathlib.Core.List.{List}
+use mathlib.Core.List.{List, [], _∷_}
 use mathlib.Core.Path.{_≡_, refl, ap, _∙_}
 use native.Mathlib.Omega.{arith}
+use lib.ListN.{length}
 use Rattle.answers.specs.Answers.{codeOf, numberOf}
 use Rattle.answers.specs.declared.Error.{Error}
 use Rattle.answers.specs.declared.Error.the-variants.{NoMep, NoSep, NoRep, ForeignEp, SendReplyEp, RecvGone, RecvNoSpace, RepliesDisabled, OutOfBounds, NoCredits, NoPerm, InvMsgOff, Abort, UnknownCmd, RecvOutOfBounds, RecvInvRplEps, SendInvCrdEp, SendInvMsgSz, TimeoutNoc, PageBoundary, MsgUnaligned, BadMachine, NoSuchTile, BadEp, BadConfig}
 use Rattle.answers.specs.declared.Answer.{Answer}
 use Rattle.sharing.specs.Note.{noted}
+use Rattle.endpoint.specs.declared.Words.{Words}
+use Rattle.table.specs.Words.{putNth}
 use Rattle.command.specs.Outcome.{Outcome, outcome, completes, carried}
 use Rattle.command.specs.declared.Completion.{Completion}
 use Rattle.board.specs.declared.Board.{Board}
@@ -15,7 +18,7 @@ use Rattle.command.specs.Command.{does, _noting_, _▸▸_}
 use Rattle.machine.specs.Machine.{respondOf, Left, left, leftBy}
 use Rattle.machine.proofs.Demand1.{arg1-back}
 use Rattle.machine.proofs.LeftLaws.{leaves-noted}
-use Rattle.tcu.specs.Interface.{returned, inC}
+use Rattle.tcu.specs.Interface.{returned, inC, listOf}
 
 pub in-c : (n : ℕ) (r : Completion) (us ts cs : List ℕ) (o : Left) → n ≡ numberOf (r .answer) → left r us ts cs ≡ o → returned n (r .arg1) us ts cs ≡ inC o
 unfolding left inC
@@ -61,3 +64,12 @@ no-zero BadMachine h = omega arith
 no-zero NoSuchTile h = omega arith
 no-zero BadEp h = omega arith
 no-zero BadConfig h = omega arith
+
+-- ---- three words stored in a list of three
+pub put-three : (ws : List ℕ) (w : Words) → length ws ≡ 3 → putNth ws 0 w ≡ listOf w
+unfolding putNth
+put-three [] w h = absurd (omega arith)
+put-three (x ∷ []) w h = absurd (omega arith)
+put-three (x ∷ y ∷ []) w h = absurd (omega arith)
+put-three (x ∷ y ∷ z ∷ []) w h = refl
+put-three (x ∷ y ∷ z ∷ u ∷ ws) w h = absurd (omega arith)

@@ -7,9 +7,8 @@ use lib.Dec.{eqb}
 use lib.ListN.{length}
 use Rattle.numbers.specs.Choice.{_gives_else_}
 use Rattle.answers.specs.Answers.{codeOf, numberOf}
-use Rattle.answers.specs.declared.Error.the-variants.{BadMachine, BadConfig}
-use Rattle.board.specs.Board.{memoryAllowed}
-use Rattle.endpoint.specs.Turning.{unpackOf, packOf}
+use Rattle.answers.specs.declared.Error.the-variants.{BadMachine}
+use Rattle.endpoint.specs.Turning.{unpackOf}
 use Rattle.endpoint.specs.declared.Words.{Words}
 use Rattle.endpoint.specs.declared.Unpacked.{Unpacked}
 use Rattle.endpoint.specs.declared.Packed.{Packed}
@@ -18,7 +17,7 @@ use Rattle.machine.specs.Machine.{Left}
 use Rattle.machine.specs.declared.Waits.{Waits}
 use Rattle.command.specs.declared.Registers.{Registers}
 use Rattle.wiring.specs.declared.Wiring.{Wiring}
-use Rattle.tcu.specs.Fields.{fieldValues, Named, names, nothing, endpointOf}
+use Rattle.lists.specs.Fields.{fieldValues, packList}
 
 -- ---- what the caller passes, as the library takes it
 abbrev pub registers : (arg0 addr size arg1 : ℕ) → Registers
@@ -74,14 +73,6 @@ fieldsInC l (Unpacked.Refused x) = turned (codeOf x) l
 
 unfoldable pub unpackInC : ℕ → Words → List ℕ → Turned
 unpackInC m w l = eqb (length l) 11 gives fieldsInC l (unpackOf m w) else turned (codeOf BadMachine) l
-
--- the eleven numbers l into words: BAD_CONFIG where they name no endpoint
-unfoldable pub packNamed : ℕ → Named → Packed
-packNamed m (names e) = packOf m e
-packNamed m nothing = Packed.Refused BadConfig
-
-unfoldable pub packList : ℕ → List ℕ → Packed
-packList m l = memoryAllowed m gives packNamed m (endpointOf l) else Packed.Refused BadMachine
 
 -- the numbers l into three words, ws before: BAD_MACHINE for any other lengths
 abbrev pub listOf : Words → List ℕ

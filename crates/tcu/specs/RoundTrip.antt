@@ -5,16 +5,8 @@ use mathlib.Core.List.{List}
 use mathlib.Core.Logic.{_↔_}
 use mathlib.Core.Path.{_≡_}
 use lib.ListN.{length}
-use Rattle.numbers.specs.Tests.{All}
-use Rattle.endpoint.specs.Acceptable.{fits}
 use Rattle.endpoint.specs.declared.Words.{Words}
-use Rattle.endpoint.specs.declared.Endpoint.{Endpoint}
-use Rattle.tcu.specs.Fields.{fieldValues, names, endpointOf}
 use Rattle.tcu.specs.Interface.{listOf, Returned, returned, Turned, turned, unpackInC, packInC}
-
--- a list names an endpoint exactly where it is that endpoint's list and each field fits its bits
-abbrev pub Inverse : Type 0
-Inverse = (l : List ℕ) (e : Endpoint) → (endpointOf l ≡ names e) ↔ ((fieldValues e ≡ l) × All (fits e))
 
 -- tcu_unpack gives the list f for the words w exactly where tcu_pack gives the words w for the list f, whatever stood before in
 -- what was lent for them

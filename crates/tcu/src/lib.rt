@@ -14,8 +14,6 @@ use endpoint::Words;
 use machine::Waits;
 use wiring::Wiring;
 
-mod lists;
-
 // Carries out one command of a tile. ARG_1 comes back where it was given.
 #[no_mangle]
 pub extern "C" fn tcu_command(

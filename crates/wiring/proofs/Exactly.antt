@@ -26,7 +26,7 @@ use Rattle.wiring.specs.Sound.{beside, Receiver, Ranged, Sender, Sound}
 use Rattle.wiring.specs.Wiring.{whole, onBoard, senderSound, disjoint, clearOf, apartFrom, bareAt, apartAt, rangeSound, receiverSound, endpointSound, soundAt, sound, wiringOf, YesExactly}
 use Rattle.wiring.specs.declared.Wiring.the-variants.{Yes, No, Refused}
 use Rattle.wiring.proofs.Places.{clash}
-use Rattle.wiring.proofs.Commands.{is-recv}
+use Rattle.machine.proofs.Fitting.{is-receive}
 
 -- ---- choices and pairs of tests
 unless : (b c : Bool) → (b gives true else c) ≡ true → b ≡ false → c ≡ true
@@ -165,7 +165,7 @@ module _ (n : ℕ) (t : Table) (ok : sound n t ≡ true) where
   aims {q} {s} S =
       let f = of-sender S in
       let x : Endpoint = endpointAt t (s .«tgt_tile») (s .«tgt_ep») in
-      (f .chip, f .tile, (receiveOf x, is-recv x (f .at)))
+      (f .chip, f .tile, (receiveOf x, is-receive x (f .at)))
 
   pub is-sound : Sound n t
   is-sound =

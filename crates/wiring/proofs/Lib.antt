@@ -1,16 +1,6 @@
 pub mod Places
 pub mod SumLaws
-pub mod SlotFacts
-pub mod Shapes
-pub mod Inv
-pub mod Moves
-pub mod Steps
-pub mod Commands
-pub mod Begins
-pub mod Claims
 pub mod Right
 pub mod Exactly
-pub mod Demand3
-pub mod Example
 pub mod Flags
 pub mod Low

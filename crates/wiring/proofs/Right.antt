@@ -11,13 +11,13 @@ use Rattle.board.proofs.BoardLaws.{right, bounds}
 use Rattle.endpoint.specs.declared.ReceiveFields.{ReceiveFields}
 use Rattle.endpoint.specs.declared.Endpoint.the-variants.{Receive}
 use Rattle.endpoint.proofs.EndpointLaws.{Rules, accepted}
-use Rattle.table.specs.Table.{view}
+use Rattle.table.specs.Table.{Table, view}
 use Rattle.table.specs.Good.{memoryAt, goodTable}
 use Rattle.table.proofs.TableLaws.{good-at}
 use Rattle.sharing.specs.Sharing.{Shared, sharingGood}
+use Rattle.slots.specs.Slots.{slotsOf}
 use Rattle.machine.specs.Machine.{machineRight}
 use Rattle.wiring.specs.Sound.{Receiver}
-use Rattle.wiring.proofs.Commands.{Turns}
 
 -- at most 8 tiles, and their words
 abbrev pub Lent : Board → ℕ → Type 0
@@ -25,6 +25,10 @@ Lent b words = (b .tiles ≤ 8) × (words ≡ b .tiles * 192)
 
 pub lent : (b : Board) (words sharing bytes : ℕ) → sizesRight b words sharing bytes ≡ true → Lent b words
 lent b words sharing bytes h = let r = right b words sharing bytes h in (bounds b (r .board) .few, r .words-right)
+
+-- each receive endpoint's wpos is one that a search may start from: a good table has it
+abbrev pub Turns : ℕ → Table → Type 0
+Turns n t = (r : ℕ) (g : ReceiveFields) → r < n * 64 → t r ≡ Receive g → g .wpos ≤ slotsOf g
 
 module _ (b : Board) (ws sh bs : List ℕ) (ok : machineRight b ws sh bs ≡ true) where
   abbrev parts : (sizesRight b (length ws) (length sh) (length bs) ≡ true) × (goodTable b ws ≡ true) × (sharingGood b sh ≡ true)

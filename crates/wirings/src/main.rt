@@ -69,15 +69,10 @@ fn receiver() -> ReceiveFields {
 // Tile 0's endpoint 6: two slots, and no replies to what comes in.
 fn reply_receiver() -> ReceiveFields {
     ReceiveFields {
-        act: 5,
         rpl_eps: 65535,
-        slots: 1,
         slot_size: 6,
-        wpos: 0,
-        rpos: 0,
         buffer: 2048,
-        occupied: 0,
-        unread: 0,
+        ..receiver()
     }
 }
 

@@ -3,7 +3,7 @@ use borrow.Author.Needs.{needs}
 use borrow.Author.Tests.{eq-eqb, ne-eqb}
 use Rattle.numbers.proofs.ChoiceLaws.{chosen, declined}
 use Rattle.tcu.specs.Interface.{wordsInC, packInC}
-use Rattle.tcu.proofs.ListLaws.{put-three}
+use Rattle.tcu.proofs.InterfaceLaws.{put-three}
 use Rattle.tcu.proofs.tcu_pack.Statement.{statement}
 use Rattle.tcu.proofs.tcu_pack.Tie as tie
 

@@ -12,7 +12,6 @@ spend-spec =
     tie.close
     (tie.spec
     (λ c. search (carry, tests) depth 20)
-    (λ c. search needs)
     (λ c κs. search needs)
     (λ c κs. search needs)
     (λ c. search needs)

@@ -1,0 +1,10 @@
+pub mod SlotFacts
+pub mod Shapes
+pub mod Inv
+pub mod Moves
+pub mod Steps
+pub mod Commands
+pub mod Begins
+pub mod Claims
+pub mod Demand3
+pub mod Example

@@ -1,0 +1,4 @@
+pub mod Ledger
+pub mod Run
+pub mod Demand3
+pub mod Room
