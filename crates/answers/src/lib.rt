@@ -1,5 +1,6 @@
 // The answers of document 01 ("Answers"), each by its name. One definition, `number_of`, gives the document's number.
 #![tactic(auto)]
+
 ghost use Rattle.std.specs.Prelude.{◌≡◌};
 ghost use Rattle.answers.specs.Answers.{code_of, number_of};
 

@@ -1,6 +1,7 @@
 // Masks of 32 bits, and the search for a slot. Slot i of a receive endpoint is bit i of its masks `occupied` and `unread`.
 // Document 01: the receive endpoint's rules on its masks ("Endpoint words"), and "the first .. slot from .., going round".
 #![tactic(auto)]
+
 ghost use Rattle.std.specs.Prelude.{◌≡◌, ◌^◌, ◌<◌, ◌≤◌, ltb};
 ghost use Rattle.bits.specs.Bits.{put_bit, has_bit, within};
 ghost use Rattle.bits.specs.Slots.{find_slot};

@@ -1,6 +1,7 @@
 // The bytes of all tiles, in one lent slice: moves within it, words and messages stored in it.
 // Each function says what the bytes are after it as one `put` of what they were (`specs/Bytes.antt`).
 #![tactic(auto)]
+
 ghost use Rattle.std.specs.Prelude.{◌≡◌, ◌++◌, ◌+◌, ◌≤◌, length};
 ghost use Rattle.memory.specs.Bytes.{part, put, word, header};
 

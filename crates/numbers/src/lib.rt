@@ -1,6 +1,7 @@
 // Sums that never wrap (document 01, "Sizes": all sums are of whole numbers): each test takes any 64-bit numbers.
 // `specs/Tests.antt` has the lists of tests that the layers above state their rules with.
 #![tactic(auto)]
+
 ghost use Rattle.std.specs.Prelude.{◌≡◌, ◌+◌};
 ghost use Rattle.numbers.specs.Sums.{◌above◌};
 
