@@ -54,7 +54,7 @@ module _ {X : Type 0} (f : Error → X) (g : Effect → X) (o : X) where
   unfolding send◌or◌gives◌
   takes-send q e s n k i p h = rw (← i, p) (go_on _ n (k s) (not-is-false _ (yes-send (Send s) s refl)) h)
 
-  pub lacks-send : (q e : Endpoint) (n : Error) (k : SendFields → Command) → q ≡ e → OneOf (0 ∷ 2 ∷ 3 ∷ []) (tag_of endpoint-type.the_type q) → o ≡ f n → o ≡ settled f g (send e or n gives k)
+  pub lacks-send : (q e : Endpoint) (n : Error) (k : SendFields → Command) → q ≡ e → ((x : SendFields) → q ≡ Send x → ⊥) → o ≡ f n → o ≡ settled f g (send e or n gives k)
   unfolding send◌or◌gives◌
   lacks-send q e n k i t h = rw (← i) (halt _ n _ h (not-is-true _ (no-send q t)))
 
@@ -62,7 +62,7 @@ module _ {X : Type 0} (f : Error → X) (g : Effect → X) (o : X) where
   unfolding receive◌or◌gives◌
   takes-receive q e r n k i p h = rw (← i, p) (go_on _ n (k r) (not-is-false _ (yes-receive (Receive r) r refl)) h)
 
-  pub lacks-receive : (q e : Endpoint) (n : Error) (k : ReceiveFields → Command) → q ≡ e → OneOf (0 ∷ 1 ∷ 3 ∷ []) (tag_of endpoint-type.the_type q) → o ≡ f n → o ≡ settled f g (receive e or n gives k)
+  pub lacks-receive : (q e : Endpoint) (n : Error) (k : ReceiveFields → Command) → q ≡ e → ((x : ReceiveFields) → q ≡ Receive x → ⊥) → o ≡ f n → o ≡ settled f g (receive e or n gives k)
   unfolding receive◌or◌gives◌
   lacks-receive q e n k i t h = rw (← i) (halt _ n _ h (not-is-true _ (no-receive q t)))
 
@@ -70,7 +70,7 @@ module _ {X : Type 0} (f : Error → X) (g : Effect → X) (o : X) where
   unfolding memory◌or◌gives◌
   takes_memory q e m n k i p h = rw (← i, p) (go_on _ n (k m) (not-is-false _ (yes-memory (Memory m) m refl)) h)
 
-  pub lacks-memory : (q e : Endpoint) (n : Error) (k : MemoryFields → Command) → q ≡ e → OneOf (0 ∷ 1 ∷ 2 ∷ []) (tag_of endpoint-type.the_type q) → o ≡ f n → o ≡ settled f g (memory e or n gives k)
+  pub lacks-memory : (q e : Endpoint) (n : Error) (k : MemoryFields → Command) → q ≡ e → ((x : MemoryFields) → q ≡ Memory x → ⊥) → o ≡ f n → o ≡ settled f g (memory e or n gives k)
   unfolding memory◌or◌gives◌
   lacks-memory q e n k i t h = rw (← i) (halt _ n _ h (not-is-true _ (no-memory q t)))
 

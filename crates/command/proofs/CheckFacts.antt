@@ -52,6 +52,7 @@ skip : (b : Bool) (d e : Error) (r : Answer) (k : Bool) → T (cond (same d e) f
 skip false d e r k t h = (refl, h, go (same d e) t)
   where
     go : (x : Bool) → T (cond x false k) → T k
+    go true u = elim u [ ]
     go false u = u
 skip true d e r k t h = absurd (go (same d e) (rw (unrefused d e h) (eqb_refl (code_of e))) t)
   where
@@ -60,6 +61,7 @@ skip true d e r k t h = absurd (go (same d e) (rw (unrefused d e h) (eqb_refl (c
 
     go : (x : Bool) → T x → T (cond x false k) → ⊥
     go true u t = t
+    go false u t = elim u [ ]
 
 -- where the refusal is e, a check before any that gives e has passed
 pub before : (e : Error) (l : List Check) → first l ≡ Refused e → (k : ℕ) → T (other-than e l k) → nth l k ≡ false
@@ -68,6 +70,7 @@ before e [] h k t = refl
 before e ((b ⇒ d) ∷ l) h zero t = (skip b d e (first l) true (go (same d e) t) h).0
   where
     go : (x : Bool) → T (not x) → T (cond x false true)
+    go true u = elim u [ ]
     go false u = tt
 before e ((b ⇒ d) ∷ l) h (suc k) t = let s = skip b d e (first l) (other-than e l k) t h in before e l s.1 k s.2
 

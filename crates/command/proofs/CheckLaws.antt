@@ -3,7 +3,6 @@
 use Prim.Native.Nat.{ℕ}
 use mathlib.Core.Bool.{Bool, true, false, not, ◌&&◌}
 use mathlib.Core.List.{List, [], ◌∷◌}
-use mathlib.Core.Logic.{◌⊎◌, ⊎_elim}
 use mathlib.Core.Path.{◌≡◌, refl, sym, ◌∙◌, ap}
 use borrow.Author.Tests.{lt-ltb, le-ltb, le-leb, lt-leb, eq-eqb, ne_eqb}
 use native.Mathlib.Omega.{arith}
@@ -116,34 +115,34 @@ flag-outside r t b tile a e h = sym e ∙ h
 pub yes-send : (e : Endpoint) (s : SendFields) → e ≡ Send s → is_send e ≡ true
 yes-send e s p = rw p
 
-pub no-send : (e : Endpoint) → OneOf (0 ∷ 2 ∷ 3 ∷ []) (tag_of endpoint-type.the_type e) → is_send e ≡ false
+pub no-send : (e : Endpoint) → ((x : SendFields) → e ≡ Send x → ⊥) → is_send e ≡ false
 no-send Invalid k = refl
-no-send (Send s) k = absurd (⊎_elim (λ p. omega arith) (λ q. ⊎_elim (λ p. omega arith) (λ p. omega arith) q) k)
+no-send (Send s) k = absurd (k s refl)
 no-send (Receive r) k = refl
 no-send (Memory m) k = refl
 
 pub yes-receive : (e : Endpoint) (r : ReceiveFields) → e ≡ Receive r → is_receive e ≡ true
 yes-receive e r p = rw p
 
-pub no-receive : (e : Endpoint) → OneOf (0 ∷ 1 ∷ 3 ∷ []) (tag_of endpoint-type.the_type e) → is_receive e ≡ false
+pub no-receive : (e : Endpoint) → ((x : ReceiveFields) → e ≡ Receive x → ⊥) → is_receive e ≡ false
 no-receive Invalid k = refl
 no-receive (Send s) k = refl
-no-receive (Receive r) k = absurd (⊎_elim (λ p. omega arith) (λ q. ⊎_elim (λ p. omega arith) (λ p. omega arith) q) k)
+no-receive (Receive r) k = absurd (k r refl)
 no-receive (Memory m) k = refl
 
 pub yes-memory : (e : Endpoint) (m : MemoryFields) → e ≡ Memory m → is_memory e ≡ true
 yes-memory e m p = rw p
 
-pub no-memory : (e : Endpoint) → OneOf (0 ∷ 1 ∷ 2 ∷ []) (tag_of endpoint-type.the_type e) → is_memory e ≡ false
+pub no-memory : (e : Endpoint) → ((x : MemoryFields) → e ≡ Memory x → ⊥) → is_memory e ≡ false
 no-memory Invalid k = refl
 no-memory (Send s) k = refl
 no-memory (Receive r) k = refl
-no-memory (Memory m) k = absurd (⊎_elim (λ p. omega arith) (λ q. ⊎_elim (λ p. omega arith) (λ p. omega arith) q) k)
+no-memory (Memory m) k = absurd (k m refl)
 
 pub saw-receive : (o e : Endpoint) (r : ReceiveFields) → o ≡ e → o ≡ Receive r → is_receive e ≡ true
 saw-receive o e r q p = yes-receive e r (sym q ∙ p)
 
-pub saw-other : (o e : Endpoint) → o ≡ e → OneOf (0 ∷ 1 ∷ 3 ∷ []) (tag_of endpoint-type.the_type o) → is_receive e ≡ false
+pub saw-other : (o e : Endpoint) → o ≡ e → ((x : ReceiveFields) → o ≡ Receive x → ⊥) → is_receive e ≡ false
 saw-other o e q k = rw (← q) (no-receive o k)
 
 pub ruleset tests = (lt-ltb, le-ltb, le-leb, lt-leb, eq-eqb, ne_eqb, lt_above, le-above, not-is-true, not-is-false, both, neither-l, neither-r, flag-above, flag-above-of, flag-page, flag-outside)

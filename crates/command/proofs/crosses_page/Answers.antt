@@ -1,0 +1,8 @@
+-- `command::crosses_page` meets its contract. Assumes nothing.
+use borrow.Author.Rules.{rules}
+use Rattle.command.specs.Local.{crosses_page}
+use Rattle.command.proofs.crosses_page.Goals as goal
+
+pub returns : goal.returns
+unfolding crosses_page
+returns c = c.sum_above.ensures
