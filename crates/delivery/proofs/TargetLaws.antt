@@ -67,7 +67,7 @@ pub at-receiver : (sh : List ℕ) (tile : ℕ) (x : Target) (o e : Endpoint) (r 
 unfolding endpoint_target ◌gives◌else◌
 at-receiver sh tile x o e r a q p h = rw (← q, p) h
 
-pub at_other : (sh : List ℕ) (tile : ℕ) (x : Target) (o e : Endpoint) (a : Registers) → o ≡ e → OneOf (0 ∷ 1 ∷ 3 ∷ []) (tag_of endpoint-type.the_type o) → x ≡ Refused RecvGone → x ≡ endpoint_target sh tile e a
+pub at_other : (sh : List ℕ) (tile : ℕ) (x : Target) (o e : Endpoint) (a : Registers) → o ≡ e → ((x : ReceiveFields) → o ≡ Receive x → ⊥) → x ≡ Refused RecvGone → x ≡ endpoint_target sh tile e a
 unfolding endpoint_target ◌gives◌else◌
 at_other sh tile x o e a q k h = rw (← q, no-receive o k) h
 

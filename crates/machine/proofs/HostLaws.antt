@@ -2,7 +2,7 @@
 use Prim.Native.Nat.{ℕ, ◌<◌}
 use mathlib.Core.Bool.{Bool, true, false, not, ◌&&◌}
 use mathlib.Core.List.{List, [], ◌∷◌}
-use mathlib.Core.Path.{◌≡◌, refl, sym, ◌∙◌}
+use mathlib.Core.Path.{◌≡◌, refl, sym, ◌∙◌, ap}
 use lib.Dec.{leb}
 use lib.ListN.{length}
 use borrow.Author.Tests.{lt-leb, leb-false, ne_eqb, not-false}
@@ -125,11 +125,11 @@ unfolding stored written
 configured us ws q m w ok k = rw (words_back m w ok).1 k
 
 pub configures : (n : Answer) (r : Bool) (b : Board) (us ws sh bs : List ℕ) (tile ep m : ℕ) (w : Words) → n ≡ first (host_checks b ws sh bs tile) → n ≡ None → ep < 64
-    → m ≡ size_of b tile → r ≡ acceptable_words m w → not r ≡ false → us ≡ put_nth ws (place tile ep) w
+    → m ≡ size_of b tile → r ≡ acceptable_words m w → r ≡ true → us ≡ put_nth ws (place tile ep) w
     → outcome (completes None 0) us bs ≡ carried 0 ws bs (configure_of b ws sh bs tile ep w)
 unfolding configure_of carried
 configures n r b us ws sh bs tile ep m w e h l i q d k =
     go-on-group _ _ _ n (host_checks b ws sh bs tile) _ e h
     (go_on _ _ _ (leb 64 ep) BadEp _ (lt-leb 64 ep l)
-    (go_on _ _ _ (not (acceptable_words (size_of b tile) w)) BadConfig _ (flag-words r false m (size_of b tile) w i q d)
-    (ends _ _ _ _ nothing 0 (same_outcome _ _ us _ bs _ refl (configured us ws (place tile ep) m w (sym q ∙ not-false r d) k) (bare bs)))))
+    (go_on _ _ _ (not (acceptable_words (size_of b tile) w)) BadConfig _ (flag-words r false m (size_of b tile) w i q (ap not d))
+    (ends _ _ _ _ nothing 0 (same_outcome _ _ us _ bs _ refl (configured us ws (place tile ep) m w (sym q ∙ d) k) (bare bs)))))

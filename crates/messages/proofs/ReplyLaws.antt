@@ -102,21 +102,21 @@ pub may-credit : (b : Board) (tile ep i : ℕ) (g : ReceiveFields) (s : SendFiel
 unfolding response
 may-credit b tile ep i g s a h z k = record { there = λ d. rw k (z.credit-in (λ w. d (rw k w))) }
 
-pub room-there : (f : SendFields) (r : Bool) → r ≡ room_for f → not r ≡ false → room_for f ≡ true
-room-there f r e h = sym e ∙ not-false r h
+pub room-there : (f : SendFields) (r : Bool) → r ≡ room_for f → r ≡ true → room_for f ≡ true
+room-there f r e h = sym e ∙ h
 
 -- the two ways of a `let Endpoint::Send(f) = x else { .. }`
-pub creditable-not : (x : Endpoint) → OneOf (0 ∷ 2 ∷ 3 ∷ []) (tag_of endpoint-type.the_type x) → creditable x ≡ false
+pub creditable-not : (x : Endpoint) → ((f : SendFields) → x ≡ Send f → ⊥) → creditable x ≡ false
 unfolding creditable
 creditable-not x k = rw (no-send x k)
 
-pub creditable-full : (x : Endpoint) (f : SendFields) (r : Bool) → x ≡ Send f → r ≡ room_for f → not r ≡ true → creditable x ≡ false
+pub creditable-full : (x : Endpoint) (f : SendFields) (r : Bool) → x ≡ Send f → r ≡ room_for f → r ≡ false → creditable x ≡ false
 unfolding creditable
-creditable-full x f r p e h = rw (p, ← e, not-true r h)
+creditable-full x f r p e h = rw (p, ← e, h)
 
-pub creditable-more : (x : Endpoint) (f : SendFields) (r : Bool) → x ≡ Send f → r ≡ room_for f → not r ≡ false → creditable x ≡ true
+pub creditable-more : (x : Endpoint) (f : SendFields) (r : Bool) → x ≡ Send f → r ≡ room_for f → r ≡ true → creditable x ≡ true
 unfolding creditable
-creditable-more x f r p e h = rw (p, ← e, not-false r h)
+creditable-more x f r p e h = rw (p, ← e, h)
 
 pub credits-more : (x : Endpoint) (f m : SendFields) → x ≡ Send f → m ≡ more f → Send m ≡ credited x
 unfolding credited

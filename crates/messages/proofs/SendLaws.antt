@@ -77,14 +77,14 @@ rsize-small b ws tile a c = go (eqb a.arg0 65535)
 pub rsize-of-receive : (o e : Endpoint) (r : ReceiveFields) → o ≡ e → o ≡ Receive r → r.slot_size ≡ (receive_of e).slot_size
 rsize-of-receive o e r q p = rw (← q, p)
 
-pub rsize-of-other : (o e : Endpoint) → o ≡ e → OneOf (0 ∷ 1 ∷ 3 ∷ []) (tag_of endpoint-type.the_type o) → 0 ≡ (receive_of e).slot_size
+pub rsize-of-other : (o e : Endpoint) → o ≡ e → ((x : ReceiveFields) → o ≡ Receive x → ⊥) → 0 ≡ (receive_of e).slot_size
 unfolding no_receive
 rsize-of-other o e q k = rw (← q) (go o k)
   where
-    go : (x : Endpoint) → OneOf (0 ∷ 1 ∷ 3 ∷ []) (tag_of endpoint-type.the_type x) → 0 ≡ (receive_of x).slot_size
+    go : (x : Endpoint) → ((f : ReceiveFields) → x ≡ Receive f → ⊥) → 0 ≡ (receive_of x).slot_size
     go Invalid z = refl
     go (Send s) z = refl
-    go (Receive r) z = absurd (⊎_elim (λ x. omega arith) (λ y. ⊎_elim (λ x. omega arith) (λ x. omega arith) y) z)
+    go (Receive r) z = absurd (z r refl)
     go (Memory m) z = refl
 
 -- ---- the checks have passed

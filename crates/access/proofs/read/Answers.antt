@@ -1,0 +1,36 @@
+-- `access::read` meets its contract. Assumes nothing.
+use borrow.Author.Rules.{rules}
+use Rattle.command.proofs.CheckLaws.{tests}
+use Rattle.command.proofs.CarryLaws.{carry}
+use Rattle.command.specs.Outcome.{carried}
+use Rattle.access.specs.Access.{READ}
+use Rattle.access.proofs.AccessLaws.{moves, far-tile, far-start, near-start, far-inside, near-inside}
+use Rattle.access.proofs.read.Goals as goal
+
+pub returns-in_default : goal.returns-in_default
+unfolding READ carried
+returns-in_default c = search (carry, tests, moves) depth 20
+
+pub returns-in-Refused : goal.returns-in-Refused
+unfolding READ carried
+returns-in-Refused c = search (carry, tests, moves) depth 20
+
+pub returns-then-a-eq0 : goal.returns-then-a-eq0
+unfolding READ carried
+returns-then-a-eq0 c = search (carry, tests, moves) depth 20
+
+pub remote_at-from-requires : goal.remote_at-from-requires
+unfolding READ carried
+remote_at-from-requires c = (search rules, search far-tile, search far-start)
+
+pub local_at-to-requires : goal.local_at-to-requires
+unfolding READ carried
+local_at-to-requires c = (search rules, search rules, search near-start)
+
+pub move_bytes-requires : goal.move_bytes-requires
+unfolding READ carried
+move_bytes-requires c = (search (far-inside, near-inside), search (near-inside, far-inside))
+
+pub returns : goal.returns
+unfolding READ carried
+returns c = search (carry, tests, moves) depth 20

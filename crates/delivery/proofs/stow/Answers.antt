@@ -1,0 +1,10 @@
+-- `delivery::stow` meets its contract. Assumes nothing.
+use borrow.Author.Rules.{rules}
+use Rattle.delivery.proofs.StowLaws.{local-range, slot-range, stowed}
+use Rattle.delivery.proofs.stow.Goals as goal
+
+pub store_message-requires : goal.store_message-requires
+store_message-requires c = (search local-range, search slot-range)
+
+pub returns : goal.returns
+returns c = search stowed

@@ -1,0 +1,20 @@
+-- `machine::step` meets its contract. Assumes nothing.
+use borrow.Author.Rules.{rules}
+use Rattle.board.proofs.BoardLaws.{bounds}
+use Rattle.sharing.proofs.NoteLaws.{inside}
+use Rattle.machine.proofs.LeftLaws.{leaves-noted, note-of, own-as}
+use Rattle.machine.proofs.Noting.{note-fits, step-notes}
+use Rattle.machine.proofs.step.Goals as goal
+
+pub own-own-requires : goal.own-own-requires
+own-own-requires c =
+    let p = c.requires in
+    inside _ _ _ (bounds _ p.0.board).few p.1 p.0.there
+
+pub take_note-requires : goal.take_note-requires
+take_note-requires c =
+    let p = c.requires in
+    ((bounds _ p.0.board).few, p.0.there, p.1, note-of _ _ _ _ _ _ c.dispatch-done.ensures (note-fits _ _ _ _ _ _ (step-notes _ _ _ _ _ _ _ _ _)))
+
+pub returns : goal.returns
+returns c = leaves-noted _ _ _ _ _ _ _ (own-as _ _ _ _ _ _ _ _ _ _ _ _ _ c.own-own.ensures c.dispatch-done.ensures) c.take_note.ensures

@@ -1,0 +1,7 @@
+-- `messages::replies/reply_write` meets its contract. Assumes nothing.
+use borrow.Author.Rules.{rules}
+use Rattle.command.proofs.CarryLaws.{one_by_one}
+use Rattle.messages.proofs.replies.reply_write.Goals as goal
+
+pub returns : goal.returns
+returns c = search one_by_one

@@ -1,0 +1,28 @@
+-- `messages::requests/deliver_request` meets its contract. Assumes nothing.
+use borrow.Author.Rules.{rules}
+use Rattle.command.proofs.CarryLaws.{carry}
+use Rattle.delivery.proofs.TargetLaws.{landings}
+use Rattle.command.specs.Outcome.{carried}
+use Rattle.command.proofs.CheckedLaws.{own-words}
+use Rattle.messages.specs.Send.{request_of}
+use Rattle.messages.proofs.SendLaws.{stow-request, sent-as}
+use Rattle.messages.proofs.MessageLaws.{landed, stowed-as, noted-as}
+use Rattle.messages.proofs.requests.deliver_request.Goals as goal
+
+pub stow-requires : goal.stow-requires
+unfolding request_of carried
+stow-requires c = search stow-request
+
+pub send_write-requires : goal.send_write-requires
+unfolding request_of carried
+send_write-requires c =
+    let s = c in
+    (search own-words, s.requires.3.from, s.requires.3.credit, search landed)
+
+pub returns-in-Refused : goal.returns-in-Refused
+unfolding request_of carried
+returns-in-Refused c = search (carry, landings) depth 20
+
+pub returns-in-To : goal.returns-in-To
+unfolding request_of carried
+returns-in-To c = search (carry, landings, stowed-as, sent-as, noted-as) depth 20

@@ -1,0 +1,8 @@
+-- `slots::give_back` meets its contract. Assumes nothing.
+use borrow.Author.Rules.{rules}
+use Rattle.slots.specs.Slots.{cleared}
+use Rattle.slots.proofs.give_back.Goals as goal
+
+pub returns : goal.returns
+unfolding cleared
+returns c = rw (c.clear-2.ensures, c.clear.ensures)

@@ -1,0 +1,9 @@
+-- `slots::slot_named` meets its contract. Assumes nothing.
+use borrow.Author.Rules.{rules}
+use mathlib.Core.Path.{refl}
+use Rattle.slots.specs.Slots.{slot_named}
+use Rattle.slots.proofs.slot_named.Goals as goal
+
+pub returns : goal.returns
+unfolding slot_named
+returns c = refl
