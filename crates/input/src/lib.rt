@@ -1,6 +1,9 @@
 // Reads a whole input into a lent slice.
 #![tactic(auto)]
-ghost use Rattle.std.specs.Prelude.{◌≤◌, ◌<◌};
+
+ghost use Rattle.input.specs.Whole.{IsWhole, EndsOr};
+
+use std::io::Read;
 
 #[derive(Clone, Copy)]
 pub enum Input {
@@ -11,68 +14,86 @@ pub enum Input {
     Failed,
 }
 
-#[derive(Clone, Copy)]
-enum Chunk {
-    Bytes(usize),
-    End,
-    Failed,
-}
-
-// One read into `s` from `at` on.
-fn read_at(fd: i32, s: &mut [u8], at: usize) -> Chunk {
-    if at <= s.len() {
-        let got = libc::read(fd, &mut s[at..]);
-        if got < 0 {
-            return Chunk::Failed;
-        }
-        if got == 0 {
-            return Chunk::End;
-        }
-        Chunk::Bytes(io::count(got, s))
-    } else {
-        Chunk::Failed
-    }
-}
-
-// `at` and `n` more, never past `most`.
-fn forward(at: usize, n: usize, most: usize) -> usize
-    requires { (at < most) × (0 < n) }
-    ensures { (at < result) × (result ≤ most) }
-{
-    if n <= most - at { at + n } else { most }
-}
-
 // Whether the input ends where the slice is full with `n` bytes.
-fn at_end(fd: i32, n: usize) -> Input {
+fn at_end<R: Read>(from: &mut R, n: usize) -> Input
+    ensures { EndsOr (R.remaining from.old) n result }
+{
     let mut one = [0u8; 1];
-    let more = libc::read(fd, &mut one);
-    if more < 0 {
-        return Input::Failed;
+    match from.read(&mut one) {
+        Ok(0) => Input::Got(n),
+        Ok(_) => Input::TooLong,
+        Err(_) => Input::Failed,
     }
-    if more == 0 {
-        return Input::Got(n);
-    }
-    Input::TooLong
 }
 
 // Reads to the end of the input. It ends since each turn brings a byte.
-pub fn read_all(fd: i32, s: &mut [u8]) -> Input {
+pub fn read_all<R: Read>(from: &mut R, s: &mut [u8]) -> Input
+    ensures { IsWhole (R.remaining from.old) s.new result }
+{
     let mut at: usize = 0;
     while at < s.len() {
-        match read_at(fd, s, at) {
-            Chunk::Bytes(n) => {
-                if n == 0 {
-                    return Input::Failed;
-                }
-                at = forward(at, n, s.len());
-            }
-            Chunk::End => {
+        match from.read(&mut s[at..]) {
+            Ok(0) => {
                 return Input::Got(at);
             }
-            Chunk::Failed => {
+            Ok(n) => {
+                at += n;
+            }
+            Err(_) => {
                 return Input::Failed;
             }
         }
     }
-    at_end(fd, at)
+    at_end(from, at)
+}
+
+#[cfg(test)]
+mod tests {
+    use super::*;
+    use std::io::{self, ErrorKind};
+
+    // A reader that fails at its second read.
+    #[derive(Drop)]
+    struct Breaks(bool);
+
+    impl Read for Breaks {
+        fn read(&mut self, buf: &mut [u8]) -> io::Result<usize> {
+            if self.0 || buf.is_empty() {
+                return Err(io::Error::from(ErrorKind::Other));
+            }
+            self.0 = true;
+            buf[0] = b'a';
+            Ok(1)
+        }
+    }
+
+    #[test]
+    fn whole_inputs(rt: HostRuntime) {
+        let mut s = [0u8; 4];
+        for (given, want) in [
+            (b"".as_slice(), 0),
+            (b"abc".as_slice(), 3),
+            (b"abcd".as_slice(), 4),
+        ] {
+            let mut from = given;
+            match read_all(&mut from, &mut s) {
+                Input::Got(n) => assert_eq!(rt; n, want),
+                _ => panic!(rt; "not read"),
+            }
+        }
+        assert_eq!(rt; s.as_slice(), b"abcd".as_slice());
+    }
+
+    #[test]
+    fn too_long(rt: HostRuntime) {
+        let mut s = [0u8; 4];
+        let mut from = b"abcde".as_slice();
+        assert!(rt; matches!(read_all(&mut from, &mut s), Input::TooLong));
+    }
+
+    #[test]
+    fn failing(rt: HostRuntime) {
+        let mut s = [0u8; 4];
+        assert!(rt; matches!(read_all(&mut Breaks(false), &mut s), Input::Failed));
+    }
 }

@@ -1,77 +1,108 @@
-// Output by way of a buffer that the caller lends. Its fill goes in and comes back by value: each function takes the buffer and
-// the fill, and answers the new fill. A full buffer is written out and begun again, so that a long report takes few calls of
-// the system.
+// Output to a writer that the caller lends: a buffered standard output, a file or a `Vec<u8>`. Each function says which bytes
+// it appends; an error is the writer's own.
 #![tactic(auto)]
-use libc::STDOUT_FILENO;
 
-// Writes the first `fill` bytes of the buffer.
-pub fn flush(buf: &[u8], fill: usize) -> bool {
-    if fill <= buf.len() {
-        return io::write_all(STDOUT_FILENO, &buf[0..fill]);
-    }
-    false
+ghost use Rattle.std.specs.Prelude.{◌≡◌, ◌-◌, [], ◌∷◌, ◌++◌, length, OnOk, replicate};
+ghost use Rattle.std.specs.Fmt.{decimal as decimal_text};
+ghost use Rattle.std.specs.Io.KnownBytes.{Keeps, Appends};
+ghost use Rattle.output.specs.Columns.{hex_text};
+
+use std::io::{self, Write};
+
+// Hands on what the writer still holds back.
+pub fn flush<W: Write>(out: &mut W) -> io::Result<()>
+    ensures { OnOk result (Keeps (W.contents out.old) (W.contents out.new)) }
+{
+    out.flush()
 }
 
-pub fn byte(buf: &mut [u8], fill: usize, b: u8) -> usize {
-    if fill < buf.len() {
-        buf[fill] = b;
-        return fill + 1;
-    }
-    flush(buf, fill);
-    if 0 < buf.len() {
-        buf[0] = b;
-        return 1;
-    }
-    0
+pub fn byte<W: Write>(out: &mut W, b: u8) -> io::Result<()>
+    ensures { OnOk result (Appends (W.contents out.old) (W.contents out.new) (b ∷ [])) }
+{
+    out.write_all(&[b])
 }
 
-pub fn text(buf: &mut [u8], fill: usize, t: &[u8]) -> usize {
-    let mut at = fill;
-    let mut i: usize = 0;
-    while i < t.len() {
-        at = byte(buf, at, t[i]);
-        i = i + 1;
-    }
-    at
+pub fn text<W: Write>(out: &mut W, t: &[u8]) -> io::Result<()>
+    ensures { OnOk result (Appends (W.contents out.old) (W.contents out.new) t.now) }
+{
+    out.write_all(t)
 }
 
 // `k` blanks.
-pub fn blanks(buf: &mut [u8], fill: usize, k: usize) -> usize {
-    let mut at = fill;
-    let mut i: usize = 0;
-    while i < k {
-        at = byte(buf, at, b' ');
-        i = i + 1;
+pub fn blanks<W: Write>(out: &mut W, k: usize) -> io::Result<()>
+    ensures { OnOk result (Appends (W.contents out.old) (W.contents out.new) (replicate k 32)) }
+{
+    for _ in 0..k {
+        byte(out, b' ')?;
     }
-    at
+    Ok(())
 }
 
-fn missing(width: usize, k: usize) -> usize {
-    if k < width { width - k } else { 0 }
+fn missing(width: usize, k: usize) -> usize
+    ensures { result ≡ width - k }
+{
+    width.saturating_sub(k)
 }
 
 // `t`, with blanks after it up to `width`.
-pub fn left(buf: &mut [u8], fill: usize, t: &[u8], width: usize) -> usize {
-    let at = text(buf, fill, t);
-    blanks(buf, at, missing(width, t.len()))
+pub fn left<W: Write>(out: &mut W, t: &[u8], width: usize) -> io::Result<()>
+    ensures { OnOk result (Appends (W.contents out.old) (W.contents out.new)
+        (t.now ++ replicate (width - length t.now) 32)) }
+{
+    text(out, t)?;
+    blanks(out, missing(width, t.len()))
 }
 
 // `t`, with blanks before it up to `width`.
-pub fn right(buf: &mut [u8], fill: usize, t: &[u8], width: usize) -> usize {
-    let at = blanks(buf, fill, missing(width, t.len()));
-    text(buf, at, t)
+pub fn right<W: Write>(out: &mut W, t: &[u8], width: usize) -> io::Result<()>
+    ensures { OnOk result (Appends (W.contents out.old) (W.contents out.new)
+        (replicate (width - length t.now) 32 ++ t.now)) }
+{
+    blanks(out, missing(width, t.len()))?;
+    text(out, t)
 }
 
 // A number in decimal, with blanks before it up to `width`.
-pub fn decimal(buf: &mut [u8], fill: usize, v: u64, width: usize) -> usize {
-    let mut d = [0u8; 20];
-    let k = io::decimal(v, &mut d);
-    right(buf, fill, &d[..k], width)
+pub fn decimal<W: Write>(out: &mut W, v: u64, width: usize) -> io::Result<()>
+    ensures { OnOk result (Appends (W.contents out.old) (W.contents out.new)
+        (replicate (width - length (decimal_text v)) 32 ++ decimal_text v)) }
+{
+    write!(out, "{v:>width$}")
 }
 
-// A number in hexadecimal, of `digits` digits at least.
-pub fn hex(buf: &mut [u8], fill: usize, v: u64, digits: usize) -> usize {
-    let mut d = [0u8; 16];
-    let k = io::hex(v, digits, &mut d);
-    text(buf, fill, &d[..k])
+// A number in hexadecimal, of `digits` digits at least: zeros stand before it.
+pub fn hex<W: Write>(out: &mut W, v: u64, digits: usize) -> io::Result<()>
+    ensures { OnOk result (Appends (W.contents out.old) (W.contents out.new)
+        (replicate (digits - length (hex_text v)) 48 ++ hex_text v)) }
+{
+    write!(out, "{v:0digits$x}")
+}
+
+#[cfg(test)]
+mod tests {
+    use super::*;
+    use std::test::Fail;
+
+    #[test]
+    fn columns(rt: HostRuntime) -> Result<(), Fail> {
+        let mut out: Vec<u8> = Vec::new(rt.alloc());
+        left(&mut out, b"ab", 4)?;
+        byte(&mut out, b'|')?;
+        right(&mut out, b"ab", 4)?;
+        byte(&mut out, b'|')?;
+        decimal(&mut out, 307, 5)?;
+        byte(&mut out, b'|')?;
+        decimal(&mut out, 307, 0)?;
+        text(&mut out, b"|0x")?;
+        hex(&mut out, 255, 4)?;
+        byte(&mut out, b'|')?;
+        hex(&mut out, 0, 1)?;
+        blanks(&mut out, 2)?;
+        flush(&mut out)?;
+        assert_eq!(rt;
+            out.as_slice(),
+            b"ab  |  ab|  307|307|0x00ff|0  ".as_slice()
+        );
+        Ok(())
+    }
 }
