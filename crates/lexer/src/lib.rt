@@ -1,6 +1,7 @@
 // The lines of a script, and the tokens of one line. A position is an index of the line, by value; `next` takes the line and a
 // position and answers the token from there on, for any line and any position.
 #![tactic(auto)]
+
 pub mod lines;
 mod number;
 
