@@ -8,43 +8,46 @@
 //
 // A mark past the last value is written as if a 0 stood there.
 #![tactic(auto)]
+
 ghost use Rattle.std.specs.Prelude.{◌≤◌};
 
-fn hexadecimal(buf: &mut [u8], fill: usize, v: u64) -> usize {
-    let at = output::text(buf, fill, b"0x");
-    output::hex(buf, at, v, 1)
+use std::io::{self, Write};
+
+fn hexadecimal<W: Write>(out: &mut W, v: u64) -> io::Result<()> {
+    output::text(out, b"0x")?;
+    output::hex(out, v, 1)
 }
 
-fn decimal_or(buf: &mut [u8], fill: usize, v: u64, special: u64, name: &[u8]) -> usize {
+fn decimal_or<W: Write>(out: &mut W, v: u64, special: u64, name: &[u8]) -> io::Result<()> {
     if v == special {
-        return output::text(buf, fill, name);
+        return output::text(out, name);
     }
-    output::decimal(buf, fill, v, 0)
+    output::decimal(out, v, 0)
 }
 
-fn permission(buf: &mut [u8], fill: usize, v: u64) -> usize {
+fn permission<W: Write>(out: &mut W, v: u64) -> io::Result<()> {
     match v {
-        1 => output::text(buf, fill, b"r"),
-        2 => output::text(buf, fill, b"w"),
-        3 => output::text(buf, fill, b"rw"),
-        _ => output::decimal(buf, fill, v, 0),
+        1 => output::text(out, b"r"),
+        2 => output::text(out, b"w"),
+        3 => output::text(out, b"rw"),
+        _ => output::decimal(out, v, 0),
     }
 }
 
-fn allowed(buf: &mut [u8], fill: usize, v: u64) -> usize {
+fn allowed<W: Write>(out: &mut W, v: u64) -> io::Result<()> {
     match v {
-        1 => output::text(buf, fill, b"read"),
-        2 => output::text(buf, fill, b"write"),
-        3 => output::text(buf, fill, b"read and write"),
-        _ => output::text(buf, fill, b"neither read nor write"),
+        1 => output::text(out, b"read"),
+        2 => output::text(out, b"write"),
+        3 => output::text(out, b"read and write"),
+        _ => output::text(out, b"neither read nor write"),
     }
 }
 
-fn plural(buf: &mut [u8], fill: usize, v: u64) -> usize {
+fn plural<W: Write>(out: &mut W, v: u64) -> io::Result<()> {
     if v == 1 {
-        return fill;
+        return Ok(());
     }
-    output::byte(buf, fill, b's')
+    output::byte(out, b's')
 }
 
 // How many values a byte of a form takes.
@@ -58,17 +61,17 @@ fn taken(mark: u8) -> usize
 }
 
 // One byte of a form: the value as the mark says, or the byte itself.
-fn put(buf: &mut [u8], fill: usize, mark: u8, v: u64) -> usize {
+fn put<W: Write>(out: &mut W, mark: u8, v: u64) -> io::Result<()> {
     match mark {
-        b'#' => output::decimal(buf, fill, v, 0),
-        b'@' => output::decimal(buf, fill, v, 4),
-        b'$' => hexadecimal(buf, fill, v),
-        b'?' => decimal_or(buf, fill, v, 65535, b"none"),
-        b'~' => decimal_or(buf, fill, v, 63, b"unlimited"),
-        b'%' => permission(buf, fill, v),
-        b'&' => allowed(buf, fill, v),
-        b'^' => plural(buf, fill, v),
-        _ => output::byte(buf, fill, mark),
+        b'#' => output::decimal(out, v, 0),
+        b'@' => output::decimal(out, v, 4),
+        b'$' => hexadecimal(out, v),
+        b'?' => decimal_or(out, v, 65535, b"none"),
+        b'~' => decimal_or(out, v, 63, b"unlimited"),
+        b'%' => permission(out, v),
+        b'&' => allowed(out, v),
+        b'^' => plural(out, v),
+        _ => output::byte(out, mark),
     }
 }
 
@@ -80,16 +83,15 @@ fn nth(values: &[u64], k: usize) -> u64 {
 }
 
 // The form, with the values in the places of its marks.
-pub fn say(buf: &mut [u8], fill: usize, form: &[u8], values: &[u64]) -> usize {
-    let mut at = fill;
+pub fn say<W: Write>(out: &mut W, form: &[u8], values: &[u64]) -> io::Result<()> {
     let mut i: usize = 0;
     let mut next: usize = 0;
     while i < form.len() {
         let mark = form[i];
         let v = nth(values, next);
-        at = put(buf, at, mark, v);
+        put(out, mark, v)?;
         next = next + taken(mark);
         i = i + 1;
     }
-    at
+    Ok(())
 }
