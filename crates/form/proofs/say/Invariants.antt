@@ -1,4 +1,4 @@
--- `form::say` is safe and ends: `i` walks the form, and no more values are taken than bytes were passed.
+-- `form::say` is safe and ends: `i` walks the form, and no more values are taken than bytes were passed. Assumes nothing.
 use Prim.Native.Nat.{◌-◌, ◌≤◌}
 use lib.ListN.{length}
 use Rattle.form.proofs.say.Given as goal
