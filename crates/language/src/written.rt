@@ -1,78 +1,75 @@
 // The language's names in the output.
 use super::{names, shapes, wants};
+use std::io::{self, Write};
 
 // The name in a row of the table.
-pub fn name(buf: &mut [u8], fill: usize, row: usize) -> usize {
-    let mut at = fill;
+pub fn name<W: Write>(out: &mut W, row: usize) -> io::Result<()> {
     let mut j: usize = 0;
     while j < names::WIDTH {
         let b = names::name_byte(row, j);
         if b == b' ' {
-            return at;
+            return Ok(());
         }
-        at = output::byte(buf, at, b);
+        output::byte(out, b)?;
         j = j + 1;
     }
-    at
+    Ok(())
 }
 
 // The same, with the blanks that fill it up.
-pub fn padded(buf: &mut [u8], fill: usize, row: usize) -> usize {
-    let mut at = fill;
+pub fn padded<W: Write>(out: &mut W, row: usize) -> io::Result<()> {
     let mut j: usize = 0;
     while j < names::WIDTH {
-        at = output::byte(buf, at, names::name_byte(row, j));
+        output::byte(out, names::name_byte(row, j))?;
         j = j + 1;
     }
-    at
+    Ok(())
 }
 
 // The name of a field.
-fn field(buf: &mut [u8], fill: usize, number: u64) -> usize {
-    name(buf, fill, names::FIELDS + (number % 64) as usize)
+fn field<W: Write>(out: &mut W, number: u64) -> io::Result<()> {
+    name(out, names::FIELDS + (number % 64) as usize)
 }
 
-fn in_list(buf: &mut [u8], fill: usize, form: usize, number: usize) -> usize {
+fn in_list<W: Write>(out: &mut W, form: usize, number: usize) -> io::Result<()> {
     if shapes::mark(form, number) == b'.' {
-        return fill;
+        return Ok(());
     }
-    let at = output::byte(buf, fill, b' ');
-    field(buf, at, number as u64)
+    output::byte(out, b' ')?;
+    field(out, number as u64)
 }
 
 // The names of a statement's fields.
-fn list(buf: &mut [u8], fill: usize, form: usize) -> usize {
-    let mut at = fill;
+fn list<W: Write>(out: &mut W, form: usize) -> io::Result<()> {
     let mut number: usize = 0;
     while number < shapes::FIELDS {
-        at = in_list(buf, at, form, number);
+        in_list(out, form, number)?;
         number = number + 1;
     }
-    at
+    Ok(())
 }
 
 // A byte of a row of `wants`, or what it stands for.
-fn part(buf: &mut [u8], fill: usize, b: u8, detail: u64) -> usize {
+fn part<W: Write>(out: &mut W, b: u8, detail: u64) -> io::Result<()> {
     match b {
-        b'#' => output::decimal(buf, fill, detail, 0),
-        b'@' => field(buf, fill, detail),
-        b'&' => output::decimal(buf, fill, shapes::most(detail as usize), 0),
-        b'%' => list(buf, fill, detail as usize),
-        _ => output::byte(buf, fill, b),
+        b'#' => output::decimal(out, detail, 0),
+        b'@' => field(out, detail),
+        b'&' => output::decimal(out, shapes::most(detail as usize), 0),
+        b'%' => list(out, detail as usize),
+        _ => output::byte(out, b),
     }
 }
 
 // What is expected, in words.
-pub fn want(buf: &mut [u8], fill: usize, row: usize, detail: u64) -> usize {
-    let mut at = fill;
+pub fn want<W: Write>(out: &mut W, row: usize, detail: u64) -> io::Result<()> {
     let mut j: usize = 0;
     while j < wants::WIDTH {
         let b = wants::want_byte(row, j);
         if b == b'|' {
-            return at;
+            return Ok(());
         }
-        at = part(buf, at, b, detail);
+        part(out, b, detail)?;
         j = j + 1;
     }
-    at
+    Ok(())
 }
