@@ -1,6 +1,7 @@
 // The statements of a script, one to a line (docs/SCRIPT.md). `parse` reads a line: it writes the values into an array that is
 // lent, and answers which statement it is, or the mistake. What each statement is made of stands in the tables of `language`.
 #![tactic(auto)]
+
 mod fields;
 mod operands;
 
