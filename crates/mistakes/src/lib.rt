@@ -1,7 +1,9 @@
 // Mistakes, each in a line: where it stands, what was found there and what was expected.
 #![tactic(auto)]
+
 use language::written;
 use script::Mistake;
+use std::io::{self, Write};
 
 // So many mistakes are told; the others are counted.
 const TOLD: u64 = 20;
@@ -10,46 +12,45 @@ const TOLD: u64 = 20;
 const SHOWN: usize = 40;
 
 // A byte as it is, or \xNN where it is not printable.
-fn shown_byte(buf: &mut [u8], fill: usize, b: u8) -> usize {
+fn shown_byte<W: Write>(out: &mut W, b: u8) -> io::Result<()> {
     if b < 32 || b > 126 {
-        let at = output::text(buf, fill, b"\\x");
-        return output::hex(buf, at, b as u64, 2);
+        output::text(out, b"\\x")?;
+        return output::hex(out, b as u64, 2);
     }
-    output::byte(buf, fill, b)
+    output::byte(out, b)
 }
 
 // The bytes of a line from `start` to `end`, cut where they are many.
-fn shown(buf: &mut [u8], fill: usize, line: &[u8], start: usize, end: usize) -> usize {
-    let mut at = fill;
+fn shown<W: Write>(out: &mut W, line: &[u8], start: usize, end: usize) -> io::Result<()> {
     let mut i = start;
     let mut count: usize = 0;
     while i < end {
         if count == SHOWN {
-            return output::text(buf, at, b"..");
+            return output::text(out, b"..");
         }
-        at = shown_byte(buf, at, lexer::byte(line, i));
+        shown_byte(out, lexer::byte(line, i))?;
         i = i + 1;
         count = count + 1;
     }
-    at
+    Ok(())
 }
 
 // What was found; a mistake that has no byte is the line's end.
-fn found(buf: &mut [u8], fill: usize, line: &[u8], start: usize, end: usize) -> usize {
+fn found<W: Write>(out: &mut W, line: &[u8], start: usize, end: usize) -> io::Result<()> {
     if end <= start {
-        return output::text(buf, fill, b"the line's end");
+        return output::text(out, b"the line's end");
     }
-    let a = output::byte(buf, fill, b'\'');
-    let b = shown(buf, a, line, start, end);
-    output::byte(buf, b, b'\'')
+    output::byte(out, b'\'')?;
+    shown(out, line, start, end)?;
+    output::byte(out, b'\'')
 }
 
 // LINE:COLUMN: found
-fn place(buf: &mut [u8], fill: usize, line: u64, column: u64) -> usize {
-    let a = output::decimal(buf, fill, line, 0);
-    let b = output::byte(buf, a, b':');
-    let c = output::decimal(buf, b, column, 0);
-    output::text(buf, c, b": found ")
+fn place<W: Write>(out: &mut W, line: u64, column: u64) -> io::Result<()> {
+    output::decimal(out, line, 0)?;
+    output::byte(out, b':')?;
+    output::decimal(out, column, 0)?;
+    output::text(out, b": found ")
 }
 
 // Columns count from 1.
@@ -62,46 +63,43 @@ fn column(start: usize) -> u64 {
 }
 
 // Tells a mistake of a line, where it is one of the first.
-pub fn tell(
-    buf: &mut [u8],
-    fill: usize,
+pub fn tell<W: Write>(
+    out: &mut W,
     mistakes: u64,
     line: &[u8],
     number: u64,
     m: Mistake,
-) -> usize {
+) -> io::Result<()> {
     if TOLD < mistakes {
-        return fill;
+        return Ok(());
     }
-    let a = place(buf, fill, number, column(m.start));
-    let b = found(buf, a, line, m.start, m.end);
-    let c = output::text(buf, b, b", expected ");
-    let d = written::want(buf, c, m.want, m.detail);
-    output::byte(buf, d, b'\n')
+    place(out, number, column(m.start))?;
+    found(out, line, m.start, m.end)?;
+    output::text(out, b", expected ")?;
+    written::want(out, m.want, m.detail)?;
+    output::byte(out, b'\n')
 }
 
 // A script that ends before its board, on line `number`.
-pub fn no_board(buf: &mut [u8], fill: usize, number: u64) -> usize {
-    let at = place(buf, fill, number, 1);
+pub fn no_board<W: Write>(out: &mut W, number: u64) -> io::Result<()> {
+    place(out, number, 1)?;
     output::text(
-        buf,
-        at,
+        out,
         b"the script's end, expected board, the first statement\n",
     )
 }
 
 // The last line after mistakes.
-pub fn count(buf: &mut [u8], fill: usize, mistakes: u64) -> usize {
+pub fn count<W: Write>(out: &mut W, mistakes: u64) -> io::Result<()> {
     if mistakes == 1 {
-        return output::text(buf, fill, b"1 mistake; nothing was run\n");
+        return output::text(out, b"1 mistake; nothing was run\n");
     }
-    let at = output::decimal(buf, fill, mistakes, 0);
+    output::decimal(out, mistakes, 0)?;
     if TOLD < mistakes {
         return output::text(
-            buf,
-            at,
+            out,
             b" mistakes, the first 20 of them told; nothing was run\n",
         );
     }
-    output::text(buf, at, b" mistakes; nothing was run\n")
+    output::text(out, b" mistakes; nothing was run\n")
 }
