@@ -1,6 +1,7 @@
 // What the table says of the open channels, for the sheet and the drawing alike; no function asks anything of its slices.
 // Endpoint e of tile t has the number 64 t + e on the board; a number that the lent words do not reach reads as INVALID.
 #![tactic(auto)]
+
 ghost use Rattle.std.specs.Prelude.{◌≤◌};
 
 use board::Board;

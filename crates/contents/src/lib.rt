@@ -1,9 +1,11 @@
 // What the tiles' memory holds: bytes put there by `bytes`, and printed by `dump`.
 #![tactic(auto)]
+
 ghost use Rattle.std.specs.Prelude.{◌<◌, ◌≤◌};
 
 use board::Board;
 use lexer::{Kind, Token};
+use std::io::{self, Write};
 
 // How many bytes to a line of `dump`.
 const ROW: u64 = 16;
@@ -92,38 +94,34 @@ fn in_row(n: u64) -> u64
     if n < ROW { n } else { ROW }
 }
 
-fn hex_bytes(buf: &mut [u8], fill: usize, mem: &[u8], at: usize, n: u64) -> usize {
-    let mut to = fill;
+fn hex_bytes<W: Write>(out: &mut W, mem: &[u8], at: usize, n: u64) -> io::Result<()> {
     let mut i: u64 = 0;
     while i < n {
-        let a = output::byte(buf, to, b' ');
-        to = output::hex(
-            buf,
-            a,
+        output::byte(out, b' ')?;
+        output::hex(
+            out,
             get(mem, std::num::wrapping_add_usize(at, i as usize)) as u64,
             2,
-        );
+        )?;
         i = i + 1;
     }
-    to
+    Ok(())
 }
 
 fn printable(b: u8) -> u8 {
     if b < 32 || b > 126 { b'.' } else { b }
 }
 
-fn characters(buf: &mut [u8], fill: usize, mem: &[u8], at: usize, n: u64) -> usize {
-    let mut to = fill;
+fn characters<W: Write>(out: &mut W, mem: &[u8], at: usize, n: u64) -> io::Result<()> {
     let mut i: u64 = 0;
     while i < n {
-        to = output::byte(
-            buf,
-            to,
+        output::byte(
+            out,
             printable(get(mem, std::num::wrapping_add_usize(at, i as usize))),
-        );
+        )?;
         i = i + 1;
     }
-    to
+    Ok(())
 }
 
 // How many blanks stand between the bytes of a line and their characters.
@@ -136,40 +134,38 @@ fn gap(n: u64) -> usize {
 }
 
 // TILE:ADDRESS
-fn row_start(buf: &mut [u8], fill: usize, tile: u64, address: u64) -> usize {
-    let a = output::decimal(buf, fill, tile, 0);
-    let b = output::text(buf, a, b":0x");
-    let c = output::hex(buf, b, address, 4);
-    output::byte(buf, c, b' ')
+fn row_start<W: Write>(out: &mut W, tile: u64, address: u64) -> io::Result<()> {
+    output::decimal(out, tile, 0)?;
+    output::text(out, b":0x")?;
+    output::hex(out, address, 4)?;
+    output::byte(out, b' ')
 }
 
 // The bytes, and between bars what of them is printable.
-fn row(buf: &mut [u8], fill: usize, mem: &[u8], at: usize, n: u64) -> usize {
-    let a = hex_bytes(buf, fill, mem, at, n);
-    let b = output::blanks(buf, a, gap(n));
-    let c = output::byte(buf, b, b'|');
-    let d = characters(buf, c, mem, at, n);
-    output::text(buf, d, b"|\n")
+fn row<W: Write>(out: &mut W, mem: &[u8], at: usize, n: u64) -> io::Result<()> {
+    hex_bytes(out, mem, at, n)?;
+    output::blanks(out, gap(n))?;
+    output::byte(out, b'|')?;
+    characters(out, mem, at, n)?;
+    output::text(out, b"|\n")
 }
 
 // `count` bytes of a tile from an address on.
-pub fn dump(
-    buf: &mut [u8],
-    fill: usize,
+pub fn dump<W: Write>(
+    out: &mut W,
     b: Board,
     mem: &[u8],
     tile: u64,
     address: u64,
     count: u64,
-) -> usize {
-    let mut to = fill;
+) -> io::Result<()> {
     let mut done: u64 = 0;
     while done < count {
         let n = in_row(count - done);
         let here = std::num::wrapping_add_u64(address, done);
-        let start = row_start(buf, to, tile, here);
-        to = row(buf, start, mem, place(b, tile, here), n);
+        row_start(out, tile, here)?;
+        row(out, mem, place(b, tile, here), n)?;
         done = done + n;
     }
-    to
+    Ok(())
 }
