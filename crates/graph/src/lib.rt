@@ -1,65 +1,52 @@
 // The drawing: a digraph for Graphviz, from left to right, with a cluster for each tile.
 #![tactic(auto)]
+
 ghost use Rattle.std.specs.Prelude.{◌<◌};
 
 use board::Board;
 use channels::{Fit, Question, phrases};
 use form::say;
+use std::io::{self, Write};
 
 mod edges;
 mod nodes;
 
-fn head(buf: &mut [u8], fill: usize) -> usize {
-    let at = output::text(
-        buf,
-        fill,
-        b"digraph channels {\n  rankdir=LR;\n  ranksep=1;\n",
-    );
-    let at = output::text(
-        buf,
-        at,
-        b"  graph [fontname=\"Helvetica\", style=\"rounded,filled\", color=gray70, fillcolor=gray95];\n",
-    );
-    let at = output::text(
-        buf,
-        at,
-        b"  node [fontname=\"Helvetica\", fontsize=11, style=filled, fillcolor=white, color=gray30];\n",
-    );
+fn head<W: Write>(out: &mut W) -> io::Result<()> {
+    output::text(out, b"digraph channels {\n  rankdir=LR;\n  ranksep=1;\n")?;
     output::text(
-        buf,
-        at,
+        out,
+        b"  graph [fontname=\"Helvetica\", style=\"rounded,filled\", color=gray70, fillcolor=gray95];\n",
+    )?;
+    output::text(
+        out,
+        b"  node [fontname=\"Helvetica\", fontsize=11, style=filled, fillcolor=white, color=gray30];\n",
+    )?;
+    output::text(
+        out,
         b"  edge [fontname=\"Helvetica\", fontsize=9, color=gray30];\n",
     )
 }
 
 // ---- the clusters
 
-fn open_nodes(
-    buf: &mut [u8],
-    fill: usize,
+fn open_nodes<W: Write>(
+    out: &mut W,
     b: Board,
     words: &[u64],
     from: u64,
     end: u64,
     running: u16,
-) -> usize {
-    let mut at = fill;
+) -> io::Result<()> {
     let mut number = channels::first(b, words, from, end, Question::IsOpen);
     while number < end {
-        at = nodes::node(
-            buf,
-            at,
-            number,
-            channels::endpoint_at(words, number),
-            running,
-        );
+        nodes::node(out, number, channels::endpoint_at(words, number), running)?;
         number = channels::first(b, words, number + 1, end, Question::IsOpen);
     }
-    at
+    Ok(())
 }
 
 // Graphviz draws no cluster without a node: where nothing is open, one says so.
-fn endpoints(buf: &mut [u8], fill: usize, b: Board, words: &[u64], t: u64, running: u16) -> usize
+fn endpoints<W: Write>(out: &mut W, b: Board, words: &[u64], t: u64, running: u16) -> io::Result<()>
     requires { t < 8 }
 {
     let from = t * 64;
@@ -67,84 +54,80 @@ fn endpoints(buf: &mut [u8], fill: usize, b: Board, words: &[u64], t: u64, runni
     if end <= channels::first(b, words, from, end, Question::IsOpen) {
         let form =
             b"    t#none [label=\"nothing is open\", shape=plaintext, style=\"\", fontcolor=gray50];\n";
-        return say(buf, fill, form, &[t]);
+        return say(out, form, &[t]);
     }
-    open_nodes(buf, fill, b, words, from, end, running)
+    open_nodes(out, b, words, from, end, running)
 }
 
-fn memory(buf: &mut [u8], fill: usize, b: Board, words: &[u64], t: u64) -> usize {
+fn memory<W: Write>(out: &mut W, b: Board, words: &[u64], t: u64) -> io::Result<()> {
     if channels::any(b, words, Question::ReachesMemoryOf(t)) {
-        return nodes::tile_memory(buf, fill, t, board::size(b, t));
+        return nodes::tile_memory(out, t, board::size(b, t));
     }
-    fill
+    Ok(())
 }
 
-fn cluster(buf: &mut [u8], fill: usize, b: Board, words: &[u64], t: u64, running: u16) -> usize
+fn cluster<W: Write>(out: &mut W, b: Board, words: &[u64], t: u64, running: u16) -> io::Result<()>
     requires { t < 8 }
 {
-    let at = say(buf, fill, b"  subgraph cluster_# {\n    label=\"", &[t]);
-    let at = phrases::tile(buf, at, t, running);
-    let at = output::text(buf, at, b"\";\n");
-    let at = endpoints(buf, at, b, words, t, running);
-    let at = memory(buf, at, b, words, t);
-    output::text(buf, at, b"  }\n")
+    say(out, b"  subgraph cluster_# {\n    label=\"", &[t])?;
+    phrases::tile(out, t, running)?;
+    output::text(out, b"\";\n")?;
+    endpoints(out, b, words, t, running)?;
+    memory(out, b, words, t)?;
+    output::text(out, b"  }\n")
 }
 
-fn clusters(buf: &mut [u8], fill: usize, b: Board, words: &[u64], acts: &[u16]) -> usize {
+fn clusters<W: Write>(out: &mut W, b: Board, words: &[u64], acts: &[u16]) -> io::Result<()> {
     let n = channels::tiles(b);
-    let mut at = fill;
     let mut t: u64 = 0;
     while t < n {
-        at = cluster(buf, at, b, words, t, channels::activity(acts, t));
+        cluster(out, b, words, t, channels::activity(acts, t))?;
         t = t + 1;
     }
-    at
+    Ok(())
 }
 
 // ---- the edges
 
-fn nowhere(buf: &mut [u8], fill: usize, b: Board, words: &[u64]) -> usize {
+fn nowhere<W: Write>(out: &mut W, b: Board, words: &[u64]) -> io::Result<()> {
     if channels::any(b, words, Question::AimsAtNothing) {
         return output::text(
-            buf,
-            fill,
+            out,
             b"  nowhere [shape=plaintext, style=\"\", fontcolor=red];\n",
         );
     }
-    fill
+    Ok(())
 }
 
-fn all_edges(buf: &mut [u8], fill: usize, b: Board, words: &[u64]) -> usize {
+fn all_edges<W: Write>(out: &mut W, b: Board, words: &[u64]) -> io::Result<()> {
     let end = channels::tiles(b) * 64;
-    let mut at = fill;
     let mut number: u64 = 0;
     while number < end {
-        at = edges::edge(buf, at, b, words, number);
+        edges::edge(out, b, words, number)?;
         number = number + 1;
     }
-    at
+    Ok(())
 }
 
 // ---- the whole
 
-fn whole(buf: &mut [u8], fill: usize, b: Board, words: &[u64], acts: &[u16]) -> usize {
-    let at = clusters(buf, fill, b, words, acts);
-    let at = nowhere(buf, at, b, words);
-    let at = all_edges(buf, at, b, words);
-    output::text(buf, at, b"}\n")
+fn whole<W: Write>(out: &mut W, b: Board, words: &[u64], acts: &[u16]) -> io::Result<()> {
+    clusters(out, b, words, acts)?;
+    nowhere(out, b, words)?;
+    all_edges(out, b, words)?;
+    output::text(out, b"}\n")
 }
 
-pub fn drawing(buf: &mut [u8], fill: usize, b: Board, words: &[u64], acts: &[u16]) -> usize {
-    let at = head(buf, fill);
+pub fn drawing<W: Write>(out: &mut W, b: Board, words: &[u64], acts: &[u16]) -> io::Result<()> {
+    head(out)?;
     let fit = channels::fit_of(b, words, acts);
     if let Fit::Right = fit {
-        return whole(buf, at, b, words, acts);
+        return whole(out, b, words, acts);
     }
-    let at = output::text(
-        buf,
-        at,
+    output::text(
+        out,
         b"  refused [shape=plaintext, style=\"\", label=\"No drawing: ",
-    );
-    let at = phrases::refusal(buf, at, b, words, acts, fit);
-    output::text(buf, at, b"\"];\n}\n")
+    )?;
+    phrases::refusal(out, b, words, acts, fit)?;
+    output::text(out, b"\"];\n}\n")
 }

@@ -3,80 +3,77 @@
 use channels::phrases;
 use endpoint::{Endpoint, MemoryFields, ReceiveFields, SendFields};
 use form::say;
+use std::io::{self, Write};
 
 // The end of a label, and what is told of an endpoint whose activity does not run.
-fn activity(buf: &mut [u8], fill: usize, act: u16, running: u16) -> usize {
+fn activity<W: Write>(out: &mut W, act: u16, running: u16) -> io::Result<()> {
     if act == running {
-        return output::byte(buf, fill, b'"');
+        return output::byte(out, b'"');
     }
     say(
-        buf,
-        fill,
+        out,
         b"\\nof activity #\", color=gray60, fontcolor=gray40",
         &[act as u64],
     )
 }
 
-fn reply(buf: &mut [u8], fill: usize, s: SendFields, running: u16) -> usize {
-    let at = output::text(buf, fill, b"reply\\nonce");
-    let at = activity(buf, at, s.act, running);
+fn reply<W: Write>(out: &mut W, s: SendFields, running: u16) -> io::Result<()> {
+    output::text(out, b"reply\\nonce")?;
+    activity(out, s.act, running)?;
     output::text(
-        buf,
-        at,
+        out,
         b", shape=ellipse, margin=\"0.02,0.03\", fillcolor=lightblue, style=\"filled,dashed\"",
     )
 }
 
-fn send(buf: &mut [u8], fill: usize, s: SendFields, running: u16) -> usize {
+fn send<W: Write>(out: &mut W, s: SendFields, running: u16) -> io::Result<()> {
     if s.reply {
-        return reply(buf, fill, s, running);
+        return reply(out, s, running);
     }
-    let at = output::text(buf, fill, b"send\\n");
-    let at = phrases::credits(buf, at, s.cur_crd, s.max_crd);
-    let at = activity(buf, at, s.act, running);
+    output::text(out, b"send\\n")?;
+    phrases::credits(out, s.cur_crd, s.max_crd)?;
+    activity(out, s.act, running)?;
     output::text(
-        buf,
-        at,
+        out,
         b", shape=ellipse, margin=\"0.02,0.03\", fillcolor=lightblue",
     )
 }
 
-fn receive(buf: &mut [u8], fill: usize, r: ReceiveFields, running: u16) -> usize {
+fn receive<W: Write>(out: &mut W, r: ReceiveFields, running: u16) -> io::Result<()> {
     let n = channels::slots(r);
-    let at = say(
-        buf,
-        fill,
+    say(
+        out,
         b"receive\\n# of # slot^ occupied",
         &[channels::ones(r.occupied), n, n],
-    );
-    let at = activity(buf, at, r.act, running);
-    output::text(buf, at, b", shape=box, fillcolor=palegreen")
+    )?;
+    activity(out, r.act, running)?;
+    output::text(out, b", shape=box, fillcolor=palegreen")
 }
 
-fn memory(buf: &mut [u8], fill: usize, m: MemoryFields, running: u16) -> usize {
-    let at = say(buf, fill, b"memory\\n&", &[m.rw as u64]);
-    let at = activity(buf, at, m.act, running);
-    output::text(buf, at, b", shape=hexagon, fillcolor=khaki")
+fn memory<W: Write>(out: &mut W, m: MemoryFields, running: u16) -> io::Result<()> {
+    say(out, b"memory\\n&", &[m.rw as u64])?;
+    activity(out, m.act, running)?;
+    output::text(out, b", shape=hexagon, fillcolor=khaki")
 }
 
-fn kind(buf: &mut [u8], fill: usize, e: Endpoint, running: u16) -> usize {
+fn kind<W: Write>(out: &mut W, e: Endpoint, running: u16) -> io::Result<()> {
     match e {
-        Endpoint::Invalid => fill,
-        Endpoint::Send(s) => send(buf, fill, s, running),
-        Endpoint::Receive(r) => receive(buf, fill, r, running),
-        Endpoint::Memory(m) => memory(buf, fill, m, running),
+        Endpoint::Invalid => Ok(()),
+        Endpoint::Send(s) => send(out, s, running),
+        Endpoint::Receive(r) => receive(out, r, running),
+        Endpoint::Memory(m) => memory(out, m, running),
     }
 }
 
 // The endpoint of that number.
-pub fn node(buf: &mut [u8], fill: usize, number: u64, e: Endpoint, running: u16) -> usize {
+pub fn node<W: Write>(out: &mut W, number: u64, e: Endpoint, running: u16) -> io::Result<()> {
     let ep = number % 64;
-    let at = say(buf, fill, b"    t#e# [label=\"# ", &[number / 64, ep, ep]);
-    let at = kind(buf, at, e, running);
-    output::text(buf, at, b"];\n")
+    say(out, b"    t#e# [label=\"# ", &[number / 64, ep, ep])?;
+    kind(out, e, running)?;
+    output::text(out, b"];\n")
 }
 
-pub fn tile_memory(buf: &mut [u8], fill: usize, tile: u64, size: u64) -> usize {
+pub fn tile_memory<W: Write>(out: &mut W, tile: u64, size: u64) -> io::Result<()> {
     let form = b"    t#mem [label=\"memory\\n# bytes\", shape=cylinder];\n";
-    say(buf, fill, form, &[tile, size])
+    say(out, form, &[tile, size])
 }
