@@ -1,6 +1,7 @@
 // One endpoint as the statement of docs/SCRIPT.md that configures it, with every field named.
 use endpoint::{Endpoint, MemoryFields, ReceiveFields, SendFields};
 use form::say;
+use std::io::{self, Write};
 
 // The fields, in the order in which their statement names them.
 fn send_values(s: SendFields) -> [u64; 10] {
@@ -43,57 +44,53 @@ fn memory_values(m: MemoryFields) -> [u64; 6] {
     ]
 }
 
-fn send(buf: &mut [u8], fill: usize, s: SendFields) -> usize {
+fn send<W: Write>(out: &mut W, s: SendFields) -> io::Result<()> {
     let values = send_values(s);
-    let at = say(
-        buf,
-        fill,
+    say(
+        out,
         b" send act=# cur_crd=~ max_crd=~ msg_sz=#",
         &values[0..4],
-    );
-    let at = say(buf, at, b" tgt_tile=# tgt_ep=# tgt_chip=#", &values[4..7]);
-    say(buf, at, b" crd_ep=? reply=# label=$\n", &values[7..10])
+    )?;
+    say(out, b" tgt_tile=# tgt_ep=# tgt_chip=#", &values[4..7])?;
+    say(out, b" crd_ep=? reply=# label=$\n", &values[7..10])
 }
 
-fn receive(buf: &mut [u8], fill: usize, r: ReceiveFields) -> usize {
+fn receive<W: Write>(out: &mut W, r: ReceiveFields) -> io::Result<()> {
     let values = receive_values(r);
-    let at = say(
-        buf,
-        fill,
+    say(
+        out,
         b" receive act=# slots=# slot_size=# buffer=$",
         &values[0..4],
-    );
+    )?;
     say(
-        buf,
-        at,
+        out,
         b" rpl_eps=? wpos=# rpos=# occupied=$ unread=$\n",
         &values[4..9],
     )
 }
 
-fn memory(buf: &mut [u8], fill: usize, m: MemoryFields) -> usize {
+fn memory<W: Write>(out: &mut W, m: MemoryFields) -> io::Result<()> {
     let values = memory_values(m);
     say(
-        buf,
-        fill,
+        out,
         b" memory act=# rw=% tile=# addr=$ size=# chip=#\n",
         &values,
     )
 }
 
-fn configured(buf: &mut [u8], fill: usize, e: Endpoint) -> usize {
+fn configured<W: Write>(out: &mut W, e: Endpoint) -> io::Result<()> {
     match e {
-        Endpoint::Invalid => fill,
-        Endpoint::Send(s) => send(buf, fill, s),
-        Endpoint::Receive(r) => receive(buf, fill, r),
-        Endpoint::Memory(m) => memory(buf, fill, m),
+        Endpoint::Invalid => Ok(()),
+        Endpoint::Send(s) => send(out, s),
+        Endpoint::Receive(r) => receive(out, r),
+        Endpoint::Memory(m) => memory(out, m),
     }
 }
 
-pub fn endpoint(buf: &mut [u8], fill: usize, tile: u64, ep: u64, e: Endpoint) -> usize {
+pub fn endpoint<W: Write>(out: &mut W, tile: u64, ep: u64, e: Endpoint) -> io::Result<()> {
     if let Endpoint::Invalid = e {
-        return say(buf, fill, b"invalidate #:#\n", &[tile, ep]);
+        return say(out, b"invalidate #:#\n", &[tile, ep]);
     }
-    let at = say(buf, fill, b"endpoint #:#", &[tile, ep]);
-    configured(buf, at, e)
+    say(out, b"endpoint #:#", &[tile, ep])?;
+    configured(out, e)
 }

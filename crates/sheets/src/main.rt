@@ -1,10 +1,12 @@
 // The crate `sheet`, run: endpoints as statements, then boards as sheets and drawings.
 #![tactic(auto)]
+
 ghost use Rattle.std.specs.Prelude.{◌≤◌, length};
 
 use crate::table_of::{Table, memory_of, receive_of, send_of};
 use board::Board;
 use endpoint::Endpoint;
+use std::io::{self, BufWriter, Write};
 
 mod boards;
 mod table_of;
@@ -16,39 +18,32 @@ const LARGE: u64 = 0x10_10_10;
 
 const UNEQUAL: u64 = 0x04_10_01;
 
-fn statements(buf: &mut [u8], fill: usize) -> usize {
-    let at = sheet::endpoint(buf, fill, 0, 4, Endpoint::Invalid);
-    let at = sheet::endpoint(buf, at, 0, 4, send_of([5, 1, 2, 8, 1, 7, 0, 0, 0, 0]));
-    let at = sheet::endpoint(
-        buf,
-        at,
+fn statements<W: Write>(out: &mut W) -> io::Result<()> {
+    sheet::endpoint(out, 0, 4, Endpoint::Invalid)?;
+    sheet::endpoint(out, 0, 4, send_of([5, 1, 2, 8, 1, 7, 0, 0, 0, 0]))?;
+    sheet::endpoint(
+        out,
         7,
         63,
         send_of([7, 63, 63, 63, 255, 64, 63, 65535, 1, 0xfeed]),
-    );
-    let at = sheet::endpoint(buf, at, 1, 7, receive_of([5, 1, 8, 1024, 20, 3, 2]));
-    sheet::endpoint(
-        buf,
-        at,
-        1,
-        7,
-        receive_of([5, 5, 11, 0, 65535, 0xffff_ffff, 0]),
-    )
+    )?;
+    sheet::endpoint(out, 1, 7, receive_of([5, 1, 8, 1024, 20, 3, 2]))?;
+    sheet::endpoint(out, 1, 7, receive_of([5, 5, 11, 0, 65535, 0xffff_ffff, 0]))
 }
 
-fn permissions(buf: &mut [u8], fill: usize) -> usize {
-    let at = sheet::endpoint(buf, fill, 0, 9, memory_of([5, 0, 1, 1024, 512, 0]));
-    let at = sheet::endpoint(buf, at, 0, 9, memory_of([5, 1, 1, 1024, 512, 0]));
-    let at = sheet::endpoint(buf, at, 0, 9, memory_of([5, 2, 1, 1024, 512, 0]));
-    sheet::endpoint(buf, at, 0, 9, memory_of([5, 3, 1, 1024, 512, 63]))
+fn permissions<W: Write>(out: &mut W) -> io::Result<()> {
+    sheet::endpoint(out, 0, 9, memory_of([5, 0, 1, 1024, 512, 0]))?;
+    sheet::endpoint(out, 0, 9, memory_of([5, 1, 1, 1024, 512, 0]))?;
+    sheet::endpoint(out, 0, 9, memory_of([5, 2, 1, 1024, 512, 0]))?;
+    sheet::endpoint(out, 0, 9, memory_of([5, 3, 1, 1024, 512, 63]))
 }
 
 // A board as a sheet and as a drawing.
-fn told(buf: &mut [u8], fill: usize, b: Board, words: &[u64], acts: &[u16]) -> usize {
-    let at = output::byte(buf, fill, b'\n');
-    let at = sheet::sheet(buf, at, b, words, acts);
-    let at = output::byte(buf, at, b'\n');
-    sheet::drawing(buf, at, b, words, acts)
+fn told<W: Write>(out: &mut W, b: Board, words: &[u64], acts: &[u16]) -> io::Result<()> {
+    output::byte(out, b'\n')?;
+    sheet::sheet(out, b, words, acts)?;
+    output::byte(out, b'\n')?;
+    sheet::drawing(out, b, words, acts)
 }
 
 fn board_of(tiles: u64, pages: u64) -> Board {
@@ -56,98 +51,98 @@ fn board_of(tiles: u64, pages: u64) -> Board {
 }
 
 // Three tiles of a table.
-fn three(buf: &mut [u8], fill: usize, pages: u64, words: &Table, acts: &[u16; 3]) -> usize {
-    told(buf, fill, board_of(3, pages), words, acts)
+fn three<W: Write>(out: &mut W, pages: u64, words: &Table, acts: &[u16; 3]) -> io::Result<()> {
+    told(out, board_of(3, pages), words, acts)
 }
 
 // The first two tiles of a table.
-fn first_two(buf: &mut [u8], fill: usize, words: &[u64]) -> usize
+fn first_two<W: Write>(out: &mut W, words: &[u64]) -> io::Result<()>
     requires { 384 ≤ length words.now }
 {
-    told(buf, fill, board_of(2, SMALL), &words[0..384], &[5, 5])
+    told(out, board_of(2, SMALL), &words[0..384], &[5, 5])
 }
 
 // A part is cut from a slice, not from a lent array.
-fn two(buf: &mut [u8], fill: usize, words: &Table) -> usize {
-    first_two(buf, fill, words)
+fn two<W: Write>(out: &mut W, words: &Table) -> io::Result<()> {
+    first_two(out, words)
 }
 
-fn session(buf: &mut [u8], fill: usize) -> usize {
+fn session<W: Write>(out: &mut W) -> io::Result<()> {
     let mut words = [0u64; 576];
     boards::session(&mut words);
-    two(buf, fill, &words)
+    two(out, &words)
 }
 
-fn service(buf: &mut [u8], fill: usize) -> usize {
+fn service<W: Write>(out: &mut W) -> io::Result<()> {
     let mut words = [0u64; 576];
     boards::service(&mut words);
-    three(buf, fill, SMALL, &words, &[5, 6, 8])
+    three(out, SMALL, &words, &[5, 6, 8])
 }
 
-fn odd(buf: &mut [u8], fill: usize) -> usize {
+fn odd<W: Write>(out: &mut W) -> io::Result<()> {
     let mut words = [0u64; 576];
     boards::odd_senders(&mut words);
     boards::odd_others(&mut words);
-    three(buf, fill, LARGE, &words, &[5, 5, 0])
+    three(out, LARGE, &words, &[5, 5, 0])
 }
 
-fn crowd(buf: &mut [u8], fill: usize) -> usize {
+fn crowd<W: Write>(out: &mut W) -> io::Result<()> {
     let mut words = [0u64; 576];
     boards::crowd(&mut words);
-    three(buf, fill, SMALL, &words, &[5, 5, 0])
+    three(out, SMALL, &words, &[5, 5, 0])
 }
 
 // Endpoints at the ends of unequal memories; then a buffer that only the vault has room for, on the gate.
-fn unequal(buf: &mut [u8], fill: usize) -> usize {
+fn unequal<W: Write>(out: &mut W) -> io::Result<()> {
     let mut words = [0u64; 576];
     boards::unequal(&mut words);
-    let at = three(buf, fill, UNEQUAL, &words, &[5, 6, 8]);
+    three(out, UNEQUAL, &words, &[5, 6, 8])?;
     boards::too_large(&mut words);
-    three(buf, at, UNEQUAL, &words, &[5, 6, 8])
+    three(out, UNEQUAL, &words, &[5, 6, 8])
 }
 
 // An empty board, then lengths that do not fit.
-fn nothing(buf: &mut [u8], fill: usize, words: &Table) -> usize {
-    let at = three(buf, fill, SMALL, words, &[5, 6, 0]);
-    let at = told(buf, at, board_of(2, SMALL), words, &[5, 6]);
-    told(buf, at, board_of(3, SMALL), words, &[5])
+fn nothing<W: Write>(out: &mut W, words: &Table) -> io::Result<()> {
+    three(out, SMALL, words, &[5, 6, 0])?;
+    told(out, board_of(2, SMALL), words, &[5, 6])?;
+    told(out, board_of(3, SMALL), words, &[5])
 }
 
 // Boards that are not allowed.
-fn no_boards(buf: &mut [u8], fill: usize, words: &Table) -> usize {
-    let at = three(buf, fill, 0x01_11_01, words, &[5, 6, 0]);
-    let at = three(buf, at, 0x01_01, words, &[5, 6, 0]);
-    told(buf, at, board_of(0xffff_ffff_ffff_ffff, SMALL), &[], &[])
+fn no_boards<W: Write>(out: &mut W, words: &Table) -> io::Result<()> {
+    three(out, 0x01_11_01, words, &[5, 6, 0])?;
+    three(out, 0x01_01, words, &[5, 6, 0])?;
+    told(out, board_of(0xffff_ffff_ffff_ffff, SMALL), &[], &[])
 }
 
 // A table with an endpoint of no kind.
-fn no_kind(buf: &mut [u8], fill: usize) -> usize {
+fn no_kind<W: Write>(out: &mut W) -> io::Result<()> {
     let mut words = [0u64; 576];
     words[195] = 7;
-    three(buf, fill, SMALL, &words, &[5, 6, 0])
+    three(out, SMALL, &words, &[5, 6, 0])
 }
 
 // Boards with nothing to tell.
-fn empty_or_refused(buf: &mut [u8], fill: usize) -> usize {
+fn empty_or_refused<W: Write>(out: &mut W) -> io::Result<()> {
     let words = [0u64; 576];
-    let at = nothing(buf, fill, &words);
-    let at = no_boards(buf, at, &words);
-    no_kind(buf, at)
+    nothing(out, &words)?;
+    no_boards(out, &words)?;
+    no_kind(out)
 }
 
-fn all(buf: &mut [u8]) -> usize {
-    let at = statements(buf, 0);
-    let at = permissions(buf, at);
-    let at = session(buf, at);
-    let at = service(buf, at);
-    let at = odd(buf, at);
-    let at = crowd(buf, at);
-    let at = unequal(buf, at);
-    empty_or_refused(buf, at)
+fn all<W: Write>(out: &mut W) -> io::Result<()> {
+    statements(out)?;
+    permissions(out)?;
+    session(out)?;
+    service(out)?;
+    odd(out)?;
+    crowd(out)?;
+    unequal(out)?;
+    empty_or_refused(out)
 }
 
-fn main() {
-    let mut buf = [0u8; 4096];
-    let fill = all(&mut buf);
-    output::flush(&buf, fill);
+fn main(rt: HostRuntime) -> io::Result<()> {
+    let mut out = BufWriter::with_capacity(rt.alloc(), 4096, io::writer(&rt))?;
+    all(&mut out)?;
+    output::flush(&mut out)
 }
