@@ -1,5 +1,6 @@
 // The second pass: each line is read again, and its statement is run.
 #![tactic(auto)]
+
 mod state;
 mod waits;
 
@@ -10,6 +11,7 @@ use report::Answered;
 use script::Line;
 use state::State;
 use statements::endpoints;
+use std::io::{self, Write};
 
 // What is printed: a line for each answer and what the statements print, or the sheet or the drawing at the end alone.
 #[derive(Clone, Copy)]
@@ -27,199 +29,212 @@ fn is_whole(mode: Mode) -> bool {
 }
 
 // A statement that answers.
-fn answering(
+fn answering<W: Write>(
     s: State,
     form: usize,
     v: &[u64; 40],
     b: Board,
-    buf: &mut [u8],
+    out: &mut W,
     words: &mut [u64],
     sharing: &mut [u64],
     mem: &mut [u8],
-) -> State {
+) -> io::Result<State> {
     let a = statements::carry_out(form, v, b, words, sharing, mem);
     let t = s.answered(form, a);
     if s.whole {
-        return t.filled(report::answer_line(buf, t.fill, s.line, form, v, a));
+        report::answer_line(out, s.line, form, v, a)?;
     }
-    t
+    Ok(t)
 }
 
 // An expectation of the last answer.
-fn expecting(s: State, v: &[u64; 40], given: &[bool; 29], buf: &mut [u8]) -> State {
+fn expecting<W: Write>(
+    s: State,
+    v: &[u64; 40],
+    given: &[bool; 29],
+    out: &mut W,
+) -> io::Result<State> {
     let same_row = v[shapes::ANSWER] == s.row as u64;
     let same_arg1 = !given[shapes::ARG1] | (v[shapes::ARG1] == s.arg1);
     let met = same_row & same_arg1;
     let t = s.expected(met);
     if met | !s.whole {
-        return t;
+        return Ok(t);
     }
     let a = Answered {
         number: 0,
         row: s.row,
         arg1: s.arg1,
     };
-    t.filled(report::failed_line(buf, t.fill, s.line, v, a))
+    report::failed_line(out, s.line, v, a)?;
+    Ok(t)
 }
 
 // The open channels, with the activity that runs on each tile.
-fn sheet_of(buf: &mut [u8], fill: usize, b: Board, words: &[u64], sharing: &[u64]) -> usize {
+fn sheet_of<W: Write>(out: &mut W, b: Board, words: &[u64], sharing: &[u64]) -> io::Result<()> {
     let ids = statements::activities(sharing);
     let n = (b.tiles % 9) as usize;
-    sheet::sheet(buf, fill, b, words, &ids[0..n])
+    sheet::sheet(out, b, words, &ids[0..n])
 }
 
-fn drawing_of(buf: &mut [u8], fill: usize, b: Board, words: &[u64], sharing: &[u64]) -> usize {
+fn drawing_of<W: Write>(out: &mut W, b: Board, words: &[u64], sharing: &[u64]) -> io::Result<()> {
     let ids = statements::activities(sharing);
     let n = (b.tiles % 9) as usize;
-    sheet::drawing(buf, fill, b, words, &ids[0..n])
+    sheet::drawing(out, b, words, &ids[0..n])
 }
 
 // What a statement prints that has no answer.
-fn printed(
+fn printed<W: Write>(
     form: usize,
     v: &[u64; 40],
     b: Board,
-    buf: &mut [u8],
-    fill: usize,
+    out: &mut W,
     words: &[u64],
     sharing: &[u64],
     mem: &[u8],
-) -> usize {
+) -> io::Result<()> {
     let tile = v[shapes::OF_TILE];
     let place = v[shapes::PLACE];
     match form {
-        names::SHOW => sheet::endpoint(buf, fill, tile, place, endpoints::at(words, tile, place)),
-        names::DUMP => contents::dump(buf, fill, b, mem, tile, place, v[shapes::COUNT]),
-        names::WAITING => waits::line(buf, fill, b, words, sharing, mem, tile),
-        names::SHEET => sheet_of(buf, fill, b, words, sharing),
-        names::DRAWING => drawing_of(buf, fill, b, words, sharing),
-        _ => fill,
+        names::SHOW => sheet::endpoint(out, tile, place, endpoints::at(words, tile, place)),
+        names::DUMP => contents::dump(out, b, mem, tile, place, v[shapes::COUNT]),
+        names::WAITING => waits::line(out, b, words, sharing, mem, tile),
+        names::SHEET => sheet_of(out, b, words, sharing),
+        names::DRAWING => drawing_of(out, b, words, sharing),
+        _ => Ok(()),
     }
 }
 
 // A statement that does not answer.
-fn without_answer(
+fn without_answer<W: Write>(
     text: &[u8],
     s: State,
     form: usize,
     v: &[u64; 40],
     b: Board,
-    buf: &mut [u8],
+    out: &mut W,
     words: &[u64],
     sharing: &mut [u64],
     mem: &mut [u8],
-) -> State {
+) -> io::Result<()> {
     let tile = v[shapes::OF_TILE];
     match form {
         names::ACTIVITY => {
             statements::set_activity(sharing, tile, v[shapes::ID]);
-            s
+            Ok(())
         }
         names::BYTES => {
             let to = contents::place(b, tile, v[shapes::PLACE]);
             contents::put_bytes(text, v[shapes::ITEMS] as usize, mem, to);
-            s
+            Ok(())
         }
         _ => {
             if s.whole {
-                return s.filled(printed(form, v, b, buf, s.fill, words, sharing, mem));
+                return printed(form, v, b, out, words, sharing, mem);
             }
-            s
+            Ok(())
         }
     }
 }
 
 // The statement of a line.
-fn statement(
+fn statement<W: Write>(
     text: &[u8],
     s: State,
     form: usize,
     v: &[u64; 40],
     given: &[bool; 29],
     b: Board,
-    buf: &mut [u8],
+    out: &mut W,
     words: &mut [u64],
     sharing: &mut [u64],
     mem: &mut [u8],
-) -> State {
+) -> io::Result<State> {
     if shapes::answers(form) != b'.' {
-        return answering(s, form, v, b, buf, words, sharing, mem);
+        return answering(s, form, v, b, out, words, sharing, mem);
     }
     if form == names::EXPECT {
-        return expecting(s, v, given, buf);
+        return expecting(s, v, given, out);
     }
-    without_answer(text, s, form, v, b, buf, words, sharing, mem)
+    without_answer(text, s, form, v, b, out, words, sharing, mem)?;
+    Ok(s)
 }
 
 // What is printed after the last statement.
-fn finish(mode: Mode, s: State, b: Board, buf: &mut [u8], words: &[u64], sharing: &[u64]) -> usize {
+fn finish<W: Write>(
+    mode: Mode,
+    s: State,
+    b: Board,
+    out: &mut W,
+    words: &[u64],
+    sharing: &[u64],
+) -> io::Result<()> {
     let t = s.tally();
     match mode {
-        Mode::Whole => report::last_line(buf, s.fill, t),
+        Mode::Whole => report::last_line(out, t),
         Mode::Sheet => {
-            let at = sheet_of(buf, s.fill, b, words, sharing);
-            report::last_line(buf, at, t)
+            sheet_of(out, b, words, sharing)?;
+            report::last_line(out, t)
         }
         Mode::Drawing => {
-            let at = drawing_of(buf, s.fill, b, words, sharing);
-            let note = output::text(buf, at, b"// ");
-            report::last_line(buf, note, t)
+            drawing_of(out, b, words, sharing)?;
+            output::text(out, b"// ")?;
+            report::last_line(out, t)
         }
     }
 }
 
-fn header(buf: &mut [u8], fill: usize, whole: bool) -> usize {
+fn header<W: Write>(out: &mut W, whole: bool) -> io::Result<()> {
     if whole {
-        return report::header(buf, fill);
+        return report::header(out);
     }
-    fill
+    Ok(())
 }
 
 // The next line. The script has no mistake, so it is blank where it is no statement.
-fn next_line(
+fn next_line<W: Write>(
     text: &[u8],
     before: State,
     b: Board,
-    buf: &mut [u8],
+    out: &mut W,
     words: &mut [u64],
     sharing: &mut [u64],
     mem: &mut [u8],
     v: &mut [u64; 40],
     given: &mut [bool; 29],
-) -> State {
+) -> io::Result<State> {
     let s = before.on_next_line();
     let c = s.context;
     match script::parse(text, c, v, given) {
         Line::Do(form) => {
             let t = s.in_context(script::after(c, form, v));
-            statement(text, t, form, v, given, b, buf, words, sharing, mem)
+            statement(text, t, form, v, given, b, out, words, sharing, mem)
         }
-        _ => s,
+        _ => Ok(s),
     }
 }
 
 // Runs a script that has no mistake.
-pub fn run(
+pub fn run<W: Write>(
     source: &[u8],
     mode: Mode,
-    fill: usize,
     b: Board,
-    buf: &mut [u8],
+    out: &mut W,
     words: &mut [u64],
     sharing: &mut [u64],
     mem: &mut [u8],
     values: &mut [u64; 40],
     given: &mut [bool; 29],
-) -> usize {
+) -> io::Result<()> {
     let whole = is_whole(mode);
-    let mut s = state::begin(whole, header(buf, fill, whole));
+    header(out, whole)?;
+    let mut s = state::begin(whole);
     let mut at: usize = 0;
     while at < source.len() {
         let end = lines::line_after(source, at);
         let text = &source[at..end];
-        s = next_line(text, s, b, buf, words, sharing, mem, values, given);
+        s = next_line(text, s, b, out, words, sharing, mem, values, given)?;
         at = end;
     }
-    finish(mode, s, b, buf, words, sharing)
+    finish(mode, s, b, out, words, sharing)
 }

@@ -4,13 +4,12 @@ use lexer::lines;
 use report::{Answered, Tally};
 use script::Context;
 
-// Whether all is printed, the line's number, what the lines before it said, the output's fill, the last answer, and the tally.
+// Whether all is printed, the line's number, what the lines before it said, the last answer, and the tally.
 #[derive(Clone, Copy)]
 pub struct State {
     pub whole: bool,
     pub line: u64,
     pub context: Context,
-    pub fill: usize,
     pub row: usize,
     pub arg1: u64,
     pub commands: u64,
@@ -20,12 +19,11 @@ pub struct State {
 }
 
 // Before the first line.
-pub fn begin(whole: bool, fill: usize) -> State {
+pub fn begin(whole: bool) -> State {
     State {
         whole,
         line: 0,
         context: script::at_start(),
-        fill,
         row: 0,
         arg1: 0,
         commands: 0,
@@ -43,11 +41,6 @@ impl State {
 
     pub fn in_context(mut self, c: Context) -> State {
         self.context = c;
-        self
-    }
-
-    pub fn filled(mut self, fill: usize) -> State {
-        self.fill = fill;
         self
     }
 

@@ -3,24 +3,24 @@ use board::Board;
 use form::say;
 use machine::Waits;
 use sharing::Waiting;
+use std::io::{self, Write};
 
-fn told(buf: &mut [u8], fill: usize, w: Waiting) -> usize {
+fn told<W: Write>(out: &mut W, w: Waiting) -> io::Result<()> {
     if w.count == 0 {
-        return output::text(buf, fill, b"nothing waits\n");
+        return output::text(out, b"nothing waits\n");
     }
     let v = [w.count, w.act as u64, w.ep as u64];
     say(
-        buf,
-        fill,
+        out,
         b"# waiting, the oldest for activity # at endpoint #\n",
         &v,
     )
 }
 
-fn rest(buf: &mut [u8], fill: usize, w: Waits) -> usize {
+fn rest<W: Write>(out: &mut W, w: Waits) -> io::Result<()> {
     match w {
-        Waits::So(x) => told(buf, fill, x),
-        Waits::Refused(_) => output::text(buf, fill, b"its record is not acceptable\n"),
+        Waits::So(x) => told(out, x),
+        Waits::Refused(_) => output::text(out, b"its record is not acceptable\n"),
     }
 }
 
@@ -31,17 +31,16 @@ fn current(sharing: &[u64], tile: u64) -> u64 {
 }
 
 // TILE: activity ID, N unread; N waiting, the oldest for activity ID at endpoint N
-pub fn line(
-    buf: &mut [u8],
-    fill: usize,
+pub fn line<W: Write>(
+    out: &mut W,
     b: Board,
     words: &[u64],
     sharing: &[u64],
     mem: &[u8],
     tile: u64,
-) -> usize {
+) -> io::Result<()> {
     let word = current(sharing, tile);
     let v = [tile, word % 0x10000, word / 0x10000];
-    let at = say(buf, fill, b"tile #: activity #, # unread; ", &v);
-    rest(buf, at, machine::waiting_at(b, words, sharing, mem, tile))
+    say(out, b"tile #: activity #, # unread; ", &v)?;
+    rest(out, machine::waiting_at(b, words, sharing, mem, tile))
 }

@@ -1,5 +1,6 @@
 // What each statement does on the board.
 #![tactic(auto)]
+
 pub mod endpoints;
 
 use answers::Answer;
