@@ -2,12 +2,13 @@
 // both. After each call a line: the call, its answer and ARG_1, and of tile 1 the activity, its unread messages, how many requests
 // wait, and the oldest's endpoint and activity.
 #![tactic(auto)]
+
 use answers::Answer;
 use board::Board;
 use command::{Completion, Registers};
 use endpoint::{Endpoint, Packed, ReceiveFields, SendFields};
-use libc::STDOUT_FILENO;
 use machine::Waits;
+use std::io::{self, BufWriter, Write};
 
 // What the host lends of both tiles: three words for each endpoint, the sharing records, the bytes.
 type Table = [u64; 384];
@@ -44,13 +45,13 @@ const ACK_MSG: u64 = 6;
 
 const XCHG_ACT: u64 = 4;
 
-fn say(text: &[u8]) {
-    io::write_all(STDOUT_FILENO, text);
+fn say<W: Write>(out: &mut W, text: &[u8]) -> io::Result<()> {
+    out.write_all(text)
 }
 
-fn decimal(n: u64) {
-    say(b" ");
-    io::print_decimal(STDOUT_FILENO, n);
+fn decimal<W: Write>(out: &mut W, n: u64) -> io::Result<()> {
+    say(out, b" ")?;
+    write!(out, "{n}")
 }
 
 // ---- the endpoints
@@ -85,53 +86,90 @@ fn receiver(act: u16, buffer: u64) -> Endpoint {
 }
 
 // Gives endpoint ep of a tile the words of e, and says so where they are refused.
-fn put(words: &mut [u64], sharing: &[u64], mem: &[u8], tile: u64, ep: u64, e: Endpoint) {
+fn put<W: Write>(
+    out: &mut W,
+    words: &mut [u64],
+    sharing: &[u64],
+    mem: &[u8],
+    tile: u64,
+    ep: u64,
+    e: Endpoint,
+) -> io::Result<()> {
     let Packed::Words(w) = endpoint::pack(4096, e) else {
-        say(b"not acceptable\n");
-        return;
+        say(out, b"not acceptable\n")?;
+        return Ok(());
     };
     let Answer::None = machine::configure(BOARD, words, sharing, mem, tile, ep, w) else {
-        say(b"not configured\n");
-        return;
+        say(out, b"not configured\n")?;
+        return Ok(());
     };
+    Ok(())
 }
 
-fn set_up(words: &mut Table, sharing: &mut Sharing, mem: &Memory) {
+fn set_up<W: Write>(
+    out: &mut W,
+    words: &mut Table,
+    sharing: &mut Sharing,
+    mem: &Memory,
+) -> io::Result<()> {
     sharing[0] = 5;
     sharing[67] = VAULT;
-    put(words, sharing, mem, GATE, TO_VAULT, sender(7));
-    put(words, sharing, mem, GATE, TO_LOGGER, sender(8));
-    put(words, sharing, mem, SHARED, TO_VAULT, receiver(7, 1024));
-    put(words, sharing, mem, SHARED, TO_LOGGER, receiver(9, 2048));
+    put(out, words, sharing, mem, GATE, TO_VAULT, sender(7))?;
+    put(out, words, sharing, mem, GATE, TO_LOGGER, sender(8))?;
+    put(
+        out,
+        words,
+        sharing,
+        mem,
+        SHARED,
+        TO_VAULT,
+        receiver(7, 1024),
+    )?;
+    put(
+        out,
+        words,
+        sharing,
+        mem,
+        SHARED,
+        TO_LOGGER,
+        receiver(9, 2048),
+    )
 }
 
 // ---- the lines
 
-fn waits(w: Waits) {
+fn waits<W: Write>(out: &mut W, w: Waits) -> io::Result<()> {
     match w {
         Waits::So(x) => {
-            decimal(x.count);
-            decimal(x.ep as u64);
-            decimal(x.act as u64);
+            decimal(out, x.count)?;
+            decimal(out, x.ep as u64)?;
+            decimal(out, x.act as u64)
         }
-        Waits::Refused(e) => decimal(answers::code(e) as u64),
+        Waits::Refused(e) => decimal(out, answers::code(e) as u64),
     }
 }
 
-fn line(done: Completion, words: &Table, sharing: &Sharing, mem: &Memory) {
+fn line<W: Write>(
+    out: &mut W,
+    done: Completion,
+    words: &Table,
+    sharing: &Sharing,
+    mem: &Memory,
+) -> io::Result<()> {
     let answer = done.answer;
-    decimal(answers::number(answer) as u64);
-    decimal(done.arg1);
-    say(b" :");
-    decimal(sharing[67] % 65536);
-    decimal(sharing[67] / 65536);
-    waits(machine::waiting_at(BOARD, words, sharing, mem, SHARED));
-    say(b"\n");
+    decimal(out, answers::number(answer) as u64)?;
+    decimal(out, done.arg1)?;
+    say(out, b" :")?;
+    decimal(out, sharing[67] % 65536)?;
+    decimal(out, sharing[67] / 65536)?;
+    waits(out, machine::waiting_at(BOARD, words, sharing, mem, SHARED))?;
+    say(out, b"\n")
 }
 
 // ---- the calls, each with its line
 
-fn command(
+fn command<W: Write>(
+    out: &mut W,
     name: &[u8],
     words: &mut Table,
     sharing: &mut Sharing,
@@ -139,7 +177,7 @@ fn command(
     tile: u64,
     opcode: u64,
     ep: u64,
-) {
+) -> io::Result<()> {
     let a = Registers {
         arg0: 65535,
         addr: 0,
@@ -151,32 +189,45 @@ fn command(
     } else {
         a
     };
-    say(name);
+    say(out, name)?;
     let done = machine::carry_out(BOARD, words, sharing, mem, tile, opcode, ep, b);
-    line(done, words, sharing, mem);
+    line(out, done, words, sharing, mem)
 }
 
-fn privileged(
+fn privileged<W: Write>(
+    out: &mut W,
     name: &[u8],
     words: &Table,
     sharing: &mut Sharing,
     mem: &Memory,
     opcode: u64,
     arg0: u64,
-) {
-    say(name);
+) -> io::Result<()> {
+    say(out, name)?;
     let done = machine::privileged(BOARD, words, sharing, mem, SHARED, opcode, arg0, 77);
-    line(done, words, sharing, mem);
+    line(out, done, words, sharing, mem)
 }
 
-fn respond(name: &[u8], words: &Table, sharing: &mut Sharing, mem: &Memory) {
-    say(name);
+fn respond<W: Write>(
+    out: &mut W,
+    name: &[u8],
+    words: &Table,
+    sharing: &mut Sharing,
+    mem: &Memory,
+) -> io::Result<()> {
+    say(out, name)?;
     let done = machine::respond(BOARD, words, sharing, mem, SHARED);
-    line(done, words, sharing, mem);
+    line(out, done, words, sharing, mem)
 }
 
-fn send_to_vault(words: &mut Table, sharing: &mut Sharing, mem: &mut Memory) {
+fn send_to_vault<W: Write>(
+    out: &mut W,
+    words: &mut Table,
+    sharing: &mut Sharing,
+    mem: &mut Memory,
+) -> io::Result<()> {
     command(
+        out,
         b"SEND vault      ",
         words,
         sharing,
@@ -184,11 +235,17 @@ fn send_to_vault(words: &mut Table, sharing: &mut Sharing, mem: &mut Memory) {
         GATE,
         SEND,
         TO_VAULT,
-    );
+    )
 }
 
-fn send_to_logger(words: &mut Table, sharing: &mut Sharing, mem: &mut Memory) {
+fn send_to_logger<W: Write>(
+    out: &mut W,
+    words: &mut Table,
+    sharing: &mut Sharing,
+    mem: &mut Memory,
+) -> io::Result<()> {
     command(
+        out,
         b"SEND logger     ",
         words,
         sharing,
@@ -196,11 +253,17 @@ fn send_to_logger(words: &mut Table, sharing: &mut Sharing, mem: &mut Memory) {
         GATE,
         SEND,
         TO_LOGGER,
-    );
+    )
 }
 
-fn vault_fetches(words: &mut Table, sharing: &mut Sharing, mem: &mut Memory) {
+fn vault_fetches<W: Write>(
+    out: &mut W,
+    words: &mut Table,
+    sharing: &mut Sharing,
+    mem: &mut Memory,
+) -> io::Result<()> {
     command(
+        out,
         b"FETCH vault     ",
         words,
         sharing,
@@ -208,11 +271,17 @@ fn vault_fetches(words: &mut Table, sharing: &mut Sharing, mem: &mut Memory) {
         SHARED,
         FETCH,
         TO_VAULT,
-    );
+    )
 }
 
-fn logger_fetches(words: &mut Table, sharing: &mut Sharing, mem: &mut Memory) {
+fn logger_fetches<W: Write>(
+    out: &mut W,
+    words: &mut Table,
+    sharing: &mut Sharing,
+    mem: &mut Memory,
+) -> io::Result<()> {
     command(
+        out,
         b"FETCH logger    ",
         words,
         sharing,
@@ -220,11 +289,17 @@ fn logger_fetches(words: &mut Table, sharing: &mut Sharing, mem: &mut Memory) {
         SHARED,
         FETCH,
         TO_LOGGER,
-    );
+    )
 }
 
-fn vault_frees(words: &mut Table, sharing: &mut Sharing, mem: &mut Memory) {
+fn vault_frees<W: Write>(
+    out: &mut W,
+    words: &mut Table,
+    sharing: &mut Sharing,
+    mem: &mut Memory,
+) -> io::Result<()> {
     command(
+        out,
         b"ACK_MSG vault   ",
         words,
         sharing,
@@ -232,11 +307,17 @@ fn vault_frees(words: &mut Table, sharing: &mut Sharing, mem: &mut Memory) {
         SHARED,
         ACK_MSG,
         TO_VAULT,
-    );
+    )
 }
 
-fn logger_frees(words: &mut Table, sharing: &mut Sharing, mem: &mut Memory) {
+fn logger_frees<W: Write>(
+    out: &mut W,
+    words: &mut Table,
+    sharing: &mut Sharing,
+    mem: &mut Memory,
+) -> io::Result<()> {
     command(
+        out,
         b"ACK_MSG logger  ",
         words,
         sharing,
@@ -244,56 +325,78 @@ fn logger_frees(words: &mut Table, sharing: &mut Sharing, mem: &mut Memory) {
         SHARED,
         ACK_MSG,
         TO_LOGGER,
-    );
+    )
 }
 
-fn response(words: &Table, sharing: &mut Sharing, mem: &Memory) {
-    respond(b"response        ", words, sharing, mem);
+fn response<W: Write>(
+    out: &mut W,
+    words: &Table,
+    sharing: &mut Sharing,
+    mem: &Memory,
+) -> io::Result<()> {
+    respond(out, b"response        ", words, sharing, mem)
 }
 
 // ---- the session
 
 // Both get messages; only the vault, whose turn it is, has its own counted.
-fn vault_runs(words: &mut Table, sharing: &mut Sharing, mem: &mut Memory) {
-    send_to_vault(words, sharing, mem);
-    send_to_logger(words, sharing, mem);
-    send_to_logger(words, sharing, mem);
-    send_to_logger(words, sharing, mem);
-    vault_fetches(words, sharing, mem);
-    logger_fetches(words, sharing, mem);
+fn vault_runs<W: Write>(
+    out: &mut W,
+    words: &mut Table,
+    sharing: &mut Sharing,
+    mem: &mut Memory,
+) -> io::Result<()> {
+    send_to_vault(out, words, sharing, mem)?;
+    send_to_logger(out, words, sharing, mem)?;
+    send_to_logger(out, words, sharing, mem)?;
+    send_to_logger(out, words, sharing, mem)?;
+    vault_fetches(out, words, sharing, mem)?;
+    logger_fetches(out, words, sharing, mem)
 }
 
 // The logger's turn, with the two messages that it had; then the vault is the one that is told of.
-fn logger_runs(words: &mut Table, sharing: &mut Sharing, mem: &mut Memory) {
+fn logger_runs<W: Write>(
+    out: &mut W,
+    words: &mut Table,
+    sharing: &mut Sharing,
+    mem: &mut Memory,
+) -> io::Result<()> {
     privileged(
+        out,
         b"XCHG_ACT logger ",
         words,
         sharing,
         mem,
         XCHG_ACT,
         LOGGER + 2 * 65536,
-    );
-    response(words, sharing, mem);
-    logger_fetches(words, sharing, mem);
-    logger_frees(words, sharing, mem);
-    send_to_vault(words, sharing, mem);
-    response(words, sharing, mem);
-    response(words, sharing, mem);
-    response(words, sharing, mem);
+    )?;
+    response(out, words, sharing, mem)?;
+    logger_fetches(out, words, sharing, mem)?;
+    logger_frees(out, words, sharing, mem)?;
+    send_to_vault(out, words, sharing, mem)?;
+    response(out, words, sharing, mem)?;
+    response(out, words, sharing, mem)?;
+    response(out, words, sharing, mem)
 }
 
 // The count goes round at 65,536, both ways.
-fn count_turns(words: &mut Table, sharing: &mut Sharing, mem: &mut Memory) {
+fn count_turns<W: Write>(
+    out: &mut W,
+    words: &mut Table,
+    sharing: &mut Sharing,
+    mem: &mut Memory,
+) -> io::Result<()> {
     privileged(
+        out,
         b"XCHG_ACT logger ",
         words,
         sharing,
         mem,
         XCHG_ACT,
         LOGGER + 65535 * 65536,
-    );
-    send_to_logger(words, sharing, mem);
-    logger_fetches(words, sharing, mem);
+    )?;
+    send_to_logger(out, words, sharing, mem)?;
+    logger_fetches(out, words, sharing, mem)
 }
 
 // A message for the logger while the vault runs; the logger then frees its slot. Nobody responds.
@@ -322,27 +425,54 @@ fn fill(words: &mut Table, sharing: &mut Sharing, mem: &mut Memory) {
 }
 
 // The queue takes 64, and no 65th until a response frees a place. A message for the vault, whose turn it is, needs none.
-fn queue_fills(words: &mut Table, sharing: &mut Sharing, mem: &mut Memory) {
-    privileged(b"XCHG_ACT vault  ", words, sharing, mem, XCHG_ACT, VAULT);
-    say(b"63 for the logger, each acknowledged\n");
+fn queue_fills<W: Write>(
+    out: &mut W,
+    words: &mut Table,
+    sharing: &mut Sharing,
+    mem: &mut Memory,
+) -> io::Result<()> {
+    privileged(
+        out,
+        b"XCHG_ACT vault  ",
+        words,
+        sharing,
+        mem,
+        XCHG_ACT,
+        VAULT,
+    )?;
+    say(out, b"63 for the logger, each acknowledged\n")?;
     fill(words, sharing, mem);
-    send_to_logger(words, sharing, mem);
+    send_to_logger(out, words, sharing, mem)?;
     one_more(words, sharing, mem);
-    send_to_logger(words, sharing, mem);
-    vault_frees(words, sharing, mem);
-    send_to_vault(words, sharing, mem);
-    response(words, sharing, mem);
-    send_to_logger(words, sharing, mem);
+    send_to_logger(out, words, sharing, mem)?;
+    vault_frees(out, words, sharing, mem)?;
+    send_to_vault(out, words, sharing, mem)?;
+    response(out, words, sharing, mem)?;
+    send_to_logger(out, words, sharing, mem)
 }
 
 // What is refused: a privileged opcode that is none, and every call where a record claims 65 waiting.
-fn refusals(words: &mut Table, sharing: &mut Sharing, mem: &mut Memory) {
-    privileged(b"privileged 0    ", words, sharing, mem, 0, 0);
-    privileged(b"privileged 5    ", words, sharing, mem, 5, 0);
+fn refusals<W: Write>(
+    out: &mut W,
+    words: &mut Table,
+    sharing: &mut Sharing,
+    mem: &mut Memory,
+) -> io::Result<()> {
+    privileged(out, b"privileged 0    ", words, sharing, mem, 0, 0)?;
+    privileged(out, b"privileged 5    ", words, sharing, mem, 5, 0)?;
     sharing[69] = 65;
-    privileged(b"XCHG_ACT, 65    ", words, sharing, mem, XCHG_ACT, VAULT);
-    respond(b"response, 65    ", words, sharing, mem);
+    privileged(
+        out,
+        b"XCHG_ACT, 65    ",
+        words,
+        sharing,
+        mem,
+        XCHG_ACT,
+        VAULT,
+    )?;
+    respond(out, b"response, 65    ", words, sharing, mem)?;
     command(
+        out,
         b"SEND vault, 65  ",
         words,
         sharing,
@@ -350,21 +480,28 @@ fn refusals(words: &mut Table, sharing: &mut Sharing, mem: &mut Memory) {
         GATE,
         SEND,
         TO_VAULT,
-    );
+    )
 }
 
-fn run(words: &mut Table, sharing: &mut Sharing, mem: &mut Memory) {
-    set_up(words, sharing, mem);
-    vault_runs(words, sharing, mem);
-    logger_runs(words, sharing, mem);
-    count_turns(words, sharing, mem);
-    queue_fills(words, sharing, mem);
-    refusals(words, sharing, mem);
+fn run<W: Write>(
+    out: &mut W,
+    words: &mut Table,
+    sharing: &mut Sharing,
+    mem: &mut Memory,
+) -> io::Result<()> {
+    set_up(out, words, sharing, mem)?;
+    vault_runs(out, words, sharing, mem)?;
+    logger_runs(out, words, sharing, mem)?;
+    count_turns(out, words, sharing, mem)?;
+    queue_fills(out, words, sharing, mem)?;
+    refusals(out, words, sharing, mem)
 }
 
-fn main() {
+fn main(rt: HostRuntime) -> io::Result<()> {
+    let mut out = BufWriter::new(rt.alloc(), io::writer(&rt))?;
     let mut words = [0u64; 384];
     let mut sharing = [0u64; 134];
     let mut mem = [0u8; 8192];
-    run(&mut words, &mut sharing, &mut mem);
+    run(&mut out, &mut words, &mut sharing, &mut mem)?;
+    out.flush()
 }

@@ -1,11 +1,12 @@
 // Document 01's session program: two tiles, M 4096, activity 5 everywhere. Nine commands, and after each a line of five
 // numbers: step, answer, ARG_1, cur_crd of tile 0's endpoint 4, occupied of tile 1's endpoint 7.
 #![tactic(auto)]
+
 use answers::Answer;
 use board::Board;
 use command::{Completion, Registers};
 use endpoint::{Endpoint, Packed, ReceiveFields, SendFields};
-use libc::STDOUT_FILENO;
+use std::io::{self, BufWriter, Write};
 
 // The words that the host lends: three for each of 64 endpoints of two tiles.
 type Table = [u64; 384];
@@ -31,12 +32,12 @@ const FETCH: u64 = 5;
 
 const ACK_MSG: u64 = 6;
 
-fn say(text: &[u8]) {
-    io::write_all(STDOUT_FILENO, text);
+fn say<W: Write>(out: &mut W, text: &[u8]) -> io::Result<()> {
+    out.write_all(text)
 }
 
-fn decimal(n: u64) {
-    io::print_decimal(STDOUT_FILENO, n);
+fn decimal<W: Write>(out: &mut W, n: u64) -> io::Result<()> {
+    write!(out, "{n}")
 }
 
 // ---- the endpoints
@@ -73,23 +74,31 @@ fn receiver(rpl_eps: u16, slot_size: u8, buffer: u64) -> Endpoint {
 }
 
 // Gives endpoint ep of a tile the words of e, and says so where they are refused.
-fn put(words: &mut [u64], mem: &[u8], tile: u64, ep: u64, e: Endpoint) {
+fn put<W: Write>(
+    out: &mut W,
+    words: &mut [u64],
+    mem: &[u8],
+    tile: u64,
+    ep: u64,
+    e: Endpoint,
+) -> io::Result<()> {
     let Packed::Words(w) = endpoint::pack(4096, e) else {
-        say(b"not acceptable\n");
-        return;
+        say(out, b"not acceptable\n")?;
+        return Ok(());
     };
     let sharing = [0u64; 134];
     let Answer::None = machine::configure(BOARD, words, &sharing, mem, tile, ep, w) else {
-        say(b"not configured\n");
-        return;
+        say(out, b"not configured\n")?;
+        return Ok(());
     };
+    Ok(())
 }
 
 // The three endpoints that are not INVALID.
-fn set_up(words: &mut Table, mem: &Memory) {
-    put(words, mem, 0, 4, sender());
-    put(words, mem, 0, 6, receiver(65535, 6, 2048));
-    put(words, mem, 1, 7, receiver(20, 8, 1024));
+fn set_up<W: Write>(out: &mut W, words: &mut Table, mem: &Memory) -> io::Result<()> {
+    put(out, words, mem, 0, 4, sender())?;
+    put(out, words, mem, 0, 6, receiver(65535, 6, 2048))?;
+    put(out, words, mem, 1, 7, receiver(20, 8, 1024))
 }
 
 // ---- the lines
@@ -111,18 +120,18 @@ fn occupied(words: &Table) -> u64 {
 }
 
 // The line of step n; the words are those after it.
-fn line(n: u64, done: Completion, words: &Table) {
+fn line<W: Write>(out: &mut W, n: u64, done: Completion, words: &Table) -> io::Result<()> {
     let answer = done.answer;
-    decimal(n);
-    say(b" ");
-    decimal(answers::number(answer) as u64);
-    say(b" ");
-    decimal(done.arg1);
-    say(b" ");
-    decimal(credits(words));
-    say(b" ");
-    decimal(occupied(words));
-    say(b"\n");
+    decimal(out, n)?;
+    say(out, b" ")?;
+    decimal(out, answers::number(answer) as u64)?;
+    say(out, b" ")?;
+    decimal(out, done.arg1)?;
+    say(out, b" ")?;
+    decimal(out, credits(words))?;
+    say(out, b" ")?;
+    decimal(out, occupied(words))?;
+    say(out, b"\n")
 }
 
 // The registers of a command; DATA_ADDR is 0 in all.
@@ -136,7 +145,8 @@ fn registers(arg0: u64, size: u64, arg1: u64) -> Registers {
 }
 
 // Step n: one command of a tile, and its line.
-fn step(
+fn step<W: Write>(
+    out: &mut W,
     words: &mut Table,
     sharing: &mut Sharing,
     mem: &mut Memory,
@@ -145,30 +155,97 @@ fn step(
     opcode: u64,
     ep: u64,
     a: Registers,
-) {
+) -> io::Result<()> {
     let done = machine::carry_out(BOARD, words, sharing, mem, tile, opcode, ep, a);
-    line(n, done, words);
+    line(out, n, done, words)
 }
 
 // The endpoints of document 01, then its nine commands.
-fn run(words: &mut Table, sharing: &mut Sharing, mem: &mut Memory) {
-    set_up(words, mem);
+fn run<W: Write>(
+    out: &mut W,
+    words: &mut Table,
+    sharing: &mut Sharing,
+    mem: &mut Memory,
+) -> io::Result<()> {
+    set_up(out, words, mem)?;
     sharing[0] = 5;
     sharing[67] = 5;
-    step(words, sharing, mem, 1, 0, SEND, 4, registers(6, 16, 77));
-    step(words, sharing, mem, 2, 0, SEND, 4, registers(65535, 16, 77));
-    step(words, sharing, mem, 3, 0, SEND, 4, registers(65535, 16, 77));
-    step(words, sharing, mem, 4, 1, FETCH, 7, registers(0, 0, 0));
-    step(words, sharing, mem, 5, 1, REPLY, 7, registers(0, 32, 0));
-    step(words, sharing, mem, 6, 1, REPLY, 7, registers(256, 32, 0));
-    step(words, sharing, mem, 7, 1, ACK_MSG, 7, registers(256, 0, 0));
-    step(words, sharing, mem, 8, 0, FETCH, 6, registers(0, 0, 0));
-    step(words, sharing, mem, 9, 0, FETCH, 6, registers(0, 0, 0));
+    step(
+        out,
+        words,
+        sharing,
+        mem,
+        1,
+        0,
+        SEND,
+        4,
+        registers(6, 16, 77),
+    )?;
+    step(
+        out,
+        words,
+        sharing,
+        mem,
+        2,
+        0,
+        SEND,
+        4,
+        registers(65535, 16, 77),
+    )?;
+    step(
+        out,
+        words,
+        sharing,
+        mem,
+        3,
+        0,
+        SEND,
+        4,
+        registers(65535, 16, 77),
+    )?;
+    step(out, words, sharing, mem, 4, 1, FETCH, 7, registers(0, 0, 0))?;
+    step(
+        out,
+        words,
+        sharing,
+        mem,
+        5,
+        1,
+        REPLY,
+        7,
+        registers(0, 32, 0),
+    )?;
+    step(
+        out,
+        words,
+        sharing,
+        mem,
+        6,
+        1,
+        REPLY,
+        7,
+        registers(256, 32, 0),
+    )?;
+    step(
+        out,
+        words,
+        sharing,
+        mem,
+        7,
+        1,
+        ACK_MSG,
+        7,
+        registers(256, 0, 0),
+    )?;
+    step(out, words, sharing, mem, 8, 0, FETCH, 6, registers(0, 0, 0))?;
+    step(out, words, sharing, mem, 9, 0, FETCH, 6, registers(0, 0, 0))
 }
 
-fn main() {
+fn main(rt: HostRuntime) -> io::Result<()> {
+    let mut out = BufWriter::new(rt.alloc(), io::writer(&rt))?;
     let mut words = [0u64; 384];
     let mut sharing = [0u64; 134];
     let mut mem = [0u8; 8192];
-    run(&mut words, &mut sharing, &mut mem);
+    run(&mut out, &mut words, &mut sharing, &mut mem)?;
+    out.flush()
 }

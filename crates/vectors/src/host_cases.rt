@@ -9,6 +9,7 @@ use answers::Answer;
 use board::Board;
 use command::Registers;
 use endpoint::{Endpoint, Packed, Unpacked, Words};
+use std::io::{self, Write};
 
 // ---- commands that look at no endpoint
 
@@ -23,16 +24,16 @@ fn plain(opcode: u64) -> Command {
     call(opcode, a)
 }
 
-pub fn idle_cases() {
+pub fn idle_cases<W: Write>(out: &mut W) -> io::Result<()> {
     let s = stage_of(Endpoint::Invalid);
-    host_refusals(s, plain(IDLE));
-    run(b"accepted", 0, s, plain(IDLE));
+    host_refusals(out, s, plain(IDLE))?;
+    run(out, b"accepted", 0, s, plain(IDLE))
 }
 
-pub fn other_opcode_cases() {
+pub fn other_opcode_cases<W: Write>(out: &mut W) -> io::Result<()> {
     let s = stage_of(Endpoint::Invalid);
-    host_refusals(s, plain(OTHER));
-    run(b"no command has it", 15, s, plain(OTHER));
+    host_refusals(out, s, plain(OTHER))?;
+    run(out, b"no command has it", 15, s, plain(OTHER))
 }
 
 // ---- configure and invalidate
@@ -85,24 +86,36 @@ fn configured(words: &mut Table, mem: &Memory, p: Place, w: Words) -> Answer {
     machine::configure(board, words, &sharing, mem, p.tile, p.ep, w)
 }
 
-fn configure(what: &[u8], should: u64, p: Place, w: Words) {
+fn configure<W: Write>(
+    out: &mut W,
+    what: &[u8],
+    should: u64,
+    p: Place,
+    w: Words,
+) -> io::Result<()> {
     let mut words = [0u64; 384];
     let mem = [0u8; 16384];
     let answer = configured(&mut words, &mem, p, w);
-    say(b"configure   ");
-    report_answer(what, answer, should);
+    say(out, b"configure   ")?;
+    report_answer(out, what, answer, should)
 }
 
-pub fn configure_cases() {
+pub fn configure_cases<W: Write>(out: &mut W) -> io::Result<()> {
     let p = LAST;
     let w = P1_WORDS;
     let board = THREE_TILES;
-    configure(b"three tiles, two are lent", 100, Place { board, ..p }, w);
-    configure(b"tile 2", 101, Place { tile: 2, ..p }, w);
-    configure(b"endpoint 64", 102, Place { ep: 64, ..p }, w);
-    configure(b"the type is 4", 103, p, TYPE_4);
-    configure(b"bit 54 of a send endpoint is set", 103, p, BIT_54);
-    configure(b"accepted, the words of P1", 0, p, w);
+    configure(
+        out,
+        b"three tiles, two are lent",
+        100,
+        Place { board, ..p },
+        w,
+    )?;
+    configure(out, b"tile 2", 101, Place { tile: 2, ..p }, w)?;
+    configure(out, b"endpoint 64", 102, Place { ep: 64, ..p }, w)?;
+    configure(out, b"the type is 4", 103, p, TYPE_4)?;
+    configure(out, b"bit 54 of a send endpoint is set", 103, p, BIT_54)?;
+    configure(out, b"accepted, the words of P1", 0, p, w)
 }
 
 // The answer to an invalidate on words and bytes that are zero.
@@ -112,58 +125,70 @@ fn invalidated(words: &mut Table, mem: &Memory, p: Place) -> Answer {
     machine::invalidate(board, words, &sharing, mem, p.tile, p.ep)
 }
 
-fn invalidate(what: &[u8], should: u64, p: Place) {
+fn invalidate<W: Write>(out: &mut W, what: &[u8], should: u64, p: Place) -> io::Result<()> {
     let mut words = [0u64; 384];
     let mem = [0u8; 16384];
     let answer = invalidated(&mut words, &mem, p);
-    say(b"invalidate  ");
-    report_answer(what, answer, should);
+    say(out, b"invalidate  ")?;
+    report_answer(out, what, answer, should)
 }
 
-pub fn invalidate_cases() {
+pub fn invalidate_cases<W: Write>(out: &mut W) -> io::Result<()> {
     let p = LAST;
     let board = THREE_TILES;
-    invalidate(b"three tiles, two are lent", 100, Place { board, ..p });
-    invalidate(b"tile 2", 101, Place { tile: 2, ..p });
-    invalidate(b"endpoint 64", 102, Place { ep: 64, ..p });
-    invalidate(b"accepted", 0, p);
+    invalidate(out, b"three tiles, two are lent", 100, Place { board, ..p })?;
+    invalidate(out, b"tile 2", 101, Place { tile: 2, ..p })?;
+    invalidate(out, b"endpoint 64", 102, Place { ep: 64, ..p })?;
+    invalidate(out, b"accepted", 0, p)
 }
 
 // ---- words into fields, and fields into words
 
 // Words into fields, where M is `memory`.
-fn unpack(what: &[u8], should: u64, memory: u64, w: Words) {
+fn unpack<W: Write>(
+    out: &mut W,
+    what: &[u8],
+    should: u64,
+    memory: u64,
+    w: Words,
+) -> io::Result<()> {
     let came = match endpoint::unpack(memory, w) {
         Unpacked::Fields(_) => 0,
         Unpacked::Refused(e) => answers::code(e) as u64,
     };
-    say(b"into fields ");
-    report(what, came, should);
+    say(out, b"into fields ")?;
+    report(out, what, came, should)
 }
 
-pub fn unpack_cases() {
+pub fn unpack_cases<W: Write>(out: &mut W) -> io::Result<()> {
     let w = P1_WORDS;
-    unpack(b"M is 6144, no multiple of 4096", 100, 6144, w);
-    unpack(b"the type is 4", 103, 8192, TYPE_4);
-    unpack(b"bit 54 of a send endpoint is set", 103, 8192, BIT_54);
-    unpack(b"accepted, the words of P1", 0, 8192, w);
+    unpack(out, b"M is 6144, no multiple of 4096", 100, 6144, w)?;
+    unpack(out, b"the type is 4", 103, 8192, TYPE_4)?;
+    unpack(out, b"bit 54 of a send endpoint is set", 103, 8192, BIT_54)?;
+    unpack(out, b"accepted, the words of P1", 0, 8192, w)
 }
 
 // Fields into words, where M is `memory`.
-fn pack(what: &[u8], should: u64, memory: u64, e: Endpoint) {
+fn pack<W: Write>(
+    out: &mut W,
+    what: &[u8],
+    should: u64,
+    memory: u64,
+    e: Endpoint,
+) -> io::Result<()> {
     let came = match endpoint::pack(memory, e) {
         Packed::Words(_) => 0,
         Packed::Refused(e) => answers::code(e) as u64,
     };
-    say(b"into words  ");
-    report(what, came, should);
+    say(out, b"into words  ")?;
+    report(out, what, came, should)
 }
 
-pub fn pack_cases() {
+pub fn pack_cases<W: Write>(out: &mut W) -> io::Result<()> {
     let s = with_msg_sz(sender(READY), 64);
     let r = with_slots(receiver(), 6);
-    pack(b"M is 69632, above 65536", 100, 69632, p1_fields());
-    pack(b"msg_sz is 64", 103, 8192, Endpoint::Send(s));
-    pack(b"slots is 6", 103, 8192, Endpoint::Receive(r));
-    pack(b"accepted, the fields of P1", 0, 8192, p1_fields());
+    pack(out, b"M is 69632, above 65536", 100, 69632, p1_fields())?;
+    pack(out, b"msg_sz is 64", 103, 8192, Endpoint::Send(s))?;
+    pack(out, b"slots is 6", 103, 8192, Endpoint::Receive(r))?;
+    pack(out, b"accepted, the fields of P1", 0, 8192, p1_fields())
 }

@@ -7,22 +7,23 @@ use crate::stage::{ACK_MSG, FETCH, Memory, READY, SEND, Table, call, play, stage
 use bits::Found;
 use command::Registers;
 use endpoint::{Endpoint, Packed, SendFields, Words};
-use libc::STDOUT_FILENO;
+use std::io::{self, Write};
 
 // ---- P1
 
-fn words(w: Words) {
-    io::print_hex(STDOUT_FILENO, w.first, 16);
-    say(b" ");
-    io::print_hex(STDOUT_FILENO, w.second, 16);
-    say(b" ");
-    io::print_hex(STDOUT_FILENO, w.third, 16);
+fn words<W: Write>(out: &mut W, w: Words) -> io::Result<()> {
+    let Words {
+        first,
+        second,
+        third,
+    } = w;
+    write!(out, "{first:016x} {second:016x} {third:016x}")
 }
 
-fn packed(p: Packed) {
+fn packed<W: Write>(out: &mut W, p: Packed) -> io::Result<()> {
     match p {
-        Packed::Words(w) => words(w),
-        Packed::Refused(e) => decimal(answers::code(e) as u64),
+        Packed::Words(w) => words(out, w),
+        Packed::Refused(e) => decimal(out, answers::code(e) as u64),
     }
 }
 
@@ -42,36 +43,39 @@ pub fn p1_fields() -> Endpoint {
     })
 }
 
-fn p1() {
-    say(b"P1 words ");
-    packed(endpoint::pack(4096, p1_fields()));
-    say(b" should be 001fffe404100029 0000000000030007 0000000000000000\n");
+fn p1<W: Write>(out: &mut W) -> io::Result<()> {
+    say(out, b"P1 words ")?;
+    packed(out, endpoint::pack(4096, p1_fields()))?;
+    say(
+        out,
+        b" should be 001fffe404100029 0000000000030007 0000000000000000\n",
+    )
 }
 
 // ---- P2 to P6
 
 // The free slot among four.
-fn free(occupied: u32, wpos: u32)
+fn free<W: Write>(out: &mut W, occupied: u32, wpos: u32) -> io::Result<()>
     requires { wpos ≤ 4 }
 {
     match bits::find_slot(occupied, wpos, 2, false) {
-        Found::At { slot, far: _ } => decimal(slot as u64),
-        Found::Nothing => say(b"none"),
+        Found::At { slot, far: _ } => decimal(out, slot as u64),
+        Found::Nothing => say(out, b"none"),
     }
 }
 
-fn p2_to_p6() {
-    say(b"P2 free slot for (1011b, 0) ");
-    free(11, 0);
-    say(b" should be 2\nP3 free slot for (0101b, 3) ");
-    free(5, 3);
-    say(b" should be 3\nP4 free slot for (1000b, 3) ");
-    free(8, 3);
-    say(b" should be 0\nP5 free slot for (0, 4) ");
-    free(0, 4);
-    say(b" should be 0\nP6 free slot for (1111b, 1) ");
-    free(15, 1);
-    say(b" should be none\n");
+fn p2_to_p6<W: Write>(out: &mut W) -> io::Result<()> {
+    say(out, b"P2 free slot for (1011b, 0) ")?;
+    free(out, 11, 0)?;
+    say(out, b" should be 2\nP3 free slot for (0101b, 3) ")?;
+    free(out, 5, 3)?;
+    say(out, b" should be 3\nP4 free slot for (1000b, 3) ")?;
+    free(out, 8, 3)?;
+    say(out, b" should be 0\nP5 free slot for (0, 4) ")?;
+    free(out, 0, 4)?;
+    say(out, b" should be 0\nP6 free slot for (1111b, 1) ")?;
+    free(out, 15, 1)?;
+    say(out, b" should be none\n")
 }
 
 // ---- P7
@@ -87,81 +91,90 @@ fn registers(arg0: u64, addr: u64, size: u64) -> Registers {
 }
 
 // ARG_1 and rpos after a FETCH.
-fn fetched(words: &mut Table, mem: &mut Memory) {
+fn fetched<W: Write>(out: &mut W, words: &mut Table, mem: &mut Memory) -> io::Result<()> {
     let e = Endpoint::Receive(four_slots(5, 1));
     let c = call(FETCH, registers(0, 0, 0));
-    let done = play(words, mem, stage_of(e), c);
+    let done = play(out, words, mem, stage_of(e), c)?;
     let Endpoint::Receive(r) = table::endpoint_at(words, 0, 4) else {
-        return;
+        return Ok(());
     };
-    decimal(done.arg1);
-    say(b" ");
-    decimal(r.rpos as u64);
+    decimal(out, done.arg1)?;
+    say(out, b" ")?;
+    decimal(out, r.rpos as u64)
 }
 
-fn p7() {
+fn p7<W: Write>(out: &mut W) -> io::Result<()> {
     let mut words = [0u64; 384];
     let mut mem = [0u8; 16384];
-    say(b"P7 ARG_1 and rpos after FETCH for (unread 0101b, rpos 1) ");
-    fetched(&mut words, &mut mem);
-    say(b" should be 512 3\n");
+    say(
+        out,
+        b"P7 ARG_1 and rpos after FETCH for (unread 0101b, rpos 1) ",
+    )?;
+    fetched(out, &mut words, &mut mem)?;
+    say(out, b" should be 512 3\n")
 }
 
 // ---- P8 to P10
 
 // The answer to a command of tile 0 on its endpoint 4, which is e.
-fn answered(e: Endpoint, opcode: u64, a: Registers) {
+fn answered<W: Write>(out: &mut W, e: Endpoint, opcode: u64, a: Registers) -> io::Result<()> {
     let mut words = [0u64; 384];
     let mut mem = [0u8; 16384];
-    let done = play(&mut words, &mut mem, stage_of(e), call(opcode, a));
+    let done = play(out, &mut words, &mut mem, stage_of(e), call(opcode, a))?;
     let answer = done.answer;
-    decimal(answers::number(answer) as u64);
+    decimal(out, answers::number(answer) as u64)
 }
 
 // The answer to a SEND by a send endpoint whose msg_sz is 8.
-fn sent(addr: u64, size: u64) {
+fn sent<W: Write>(out: &mut W, addr: u64, size: u64) -> io::Result<()> {
     let e = Endpoint::Send(sender(READY));
-    answered(e, SEND, registers(65535, addr, size));
+    answered(out, e, SEND, registers(65535, addr, size))
 }
 
-fn p8_and_p9() {
-    say(b"P8 answer for (msg_sz 8, size 224) ");
-    sent(0, 224);
-    say(b" should be 0\nP8 answer for (msg_sz 8, size 225) ");
-    sent(0, 225);
-    say(b" should be 9\nP9 answer for (address 0x1ff0, size 16) ");
-    sent(0x1FF0, 16);
-    say(b" should be 0\nP9 answer for (address 0x1ff0, size 17) ");
-    sent(0x1FF0, 17);
-    say(b" should be 22\n");
+fn p8_and_p9<W: Write>(out: &mut W) -> io::Result<()> {
+    say(out, b"P8 answer for (msg_sz 8, size 224) ")?;
+    sent(out, 0, 224)?;
+    say(out, b" should be 0\nP8 answer for (msg_sz 8, size 225) ")?;
+    sent(out, 0, 225)?;
+    say(
+        out,
+        b" should be 9\nP9 answer for (address 0x1ff0, size 16) ",
+    )?;
+    sent(out, 0x1FF0, 16)?;
+    say(
+        out,
+        b" should be 0\nP9 answer for (address 0x1ff0, size 17) ",
+    )?;
+    sent(out, 0x1FF0, 17)?;
+    say(out, b" should be 22\n")
 }
 
 // The slot that ACK_MSG frees where all four are occupied.
-fn freed(words: &mut Table, mem: &mut Memory, arg0: u64) {
+fn freed<W: Write>(out: &mut W, words: &mut Table, mem: &mut Memory, arg0: u64) -> io::Result<()> {
     let e = Endpoint::Receive(four_slots(0, 0));
     let c = call(ACK_MSG, registers(arg0, 0, 0));
-    play(words, mem, stage_of(e), c);
+    play(out, words, mem, stage_of(e), c)?;
     let Endpoint::Receive(r) = table::endpoint_at(words, 0, 4) else {
-        return;
+        return Ok(());
     };
-    free(r.occupied, 0);
+    free(out, r.occupied, 0)
 }
 
-fn p10() {
+fn p10<W: Write>(out: &mut W) -> io::Result<()> {
     let mut words = [0u64; 384];
     let mut mem = [0u8; 16384];
     let e = Endpoint::Receive(four_slots(0, 0));
-    say(b"P10 slot for (arg0 1023) ");
-    freed(&mut words, &mut mem, 1023);
-    say(b" should be 3\nP10 answer for (arg0 1024) ");
-    answered(e, ACK_MSG, registers(1024, 0, 0));
-    say(b" should be 12\n");
+    say(out, b"P10 slot for (arg0 1023) ")?;
+    freed(out, &mut words, &mut mem, 1023)?;
+    say(out, b" should be 3\nP10 answer for (arg0 1024) ")?;
+    answered(out, e, ACK_MSG, registers(1024, 0, 0))?;
+    say(out, b" should be 12\n")
 }
 
-pub fn listed_numbers() {
-    p1();
-    p2_to_p6();
-    p7();
-    p8_and_p9();
-    p10();
+pub fn listed_numbers<W: Write>(out: &mut W) -> io::Result<()> {
+    p1(out)?;
+    p2_to_p6(out)?;
+    p7(out)?;
+    p8_and_p9(out)?;
+    p10(out)
 }

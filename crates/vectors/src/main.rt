@@ -2,6 +2,9 @@
 // what the case is, what the machine gives, and what the document says it should be. The cases of a command stand in the
 // order of its checks.
 #![tactic(auto)]
+
+use std::io::{self, BufWriter, Write};
+
 mod access_cases;
 mod fields;
 mod host_cases;
@@ -11,18 +14,20 @@ mod output;
 mod slot_cases;
 mod stage;
 
-fn main() {
-    listed::listed_numbers();
-    host_cases::idle_cases();
-    message_cases::send_cases();
-    message_cases::reply_cases();
-    access_cases::read_cases();
-    access_cases::write_cases();
-    slot_cases::fetch_cases();
-    slot_cases::ack_msg_cases();
-    host_cases::other_opcode_cases();
-    host_cases::configure_cases();
-    host_cases::invalidate_cases();
-    host_cases::unpack_cases();
-    host_cases::pack_cases();
+fn main(rt: HostRuntime) -> io::Result<()> {
+    let mut out = BufWriter::new(rt.alloc(), io::writer(&rt))?;
+    listed::listed_numbers(&mut out)?;
+    host_cases::idle_cases(&mut out)?;
+    message_cases::send_cases(&mut out)?;
+    message_cases::reply_cases(&mut out)?;
+    access_cases::read_cases(&mut out)?;
+    access_cases::write_cases(&mut out)?;
+    slot_cases::fetch_cases(&mut out)?;
+    slot_cases::ack_msg_cases(&mut out)?;
+    host_cases::other_opcode_cases(&mut out)?;
+    host_cases::configure_cases(&mut out)?;
+    host_cases::invalidate_cases(&mut out)?;
+    host_cases::unpack_cases(&mut out)?;
+    host_cases::pack_cases(&mut out)?;
+    out.flush()
 }

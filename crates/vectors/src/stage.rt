@@ -8,6 +8,7 @@ use answers::Answer;
 use board::Board;
 use command::{Completion, Registers};
 use endpoint::{Endpoint, Packed, ReceiveFields};
+use std::io::{self, Write};
 
 // The words that the host lends: three for each of 64 endpoints of two tiles.
 pub type Table = [u64; 384];
@@ -97,105 +98,158 @@ pub fn call(opcode: u64, a: Registers) -> Command {
 }
 
 // Gives endpoint ep of a tile the words of e, and says so where they are refused.
-fn put(words: &mut [u64], mem: &[u8], tile: u64, ep: u64, e: Endpoint) {
+fn put<W: Write>(
+    out: &mut W,
+    words: &mut [u64],
+    mem: &[u8],
+    tile: u64,
+    ep: u64,
+    e: Endpoint,
+) -> io::Result<()> {
     let Packed::Words(w) = endpoint::pack(8192, e) else {
-        say(b"not acceptable: ");
-        return;
+        say(out, b"not acceptable: ")?;
+        return Ok(());
     };
     let sharing = [0u64; 134];
     let Answer::None = machine::configure(BOARD, words, &sharing, mem, tile, ep, w) else {
-        say(b"not configured: ");
-        return;
+        say(out, b"not configured: ")?;
+        return Ok(());
     };
+    Ok(())
 }
 
-fn put_receiver(words: &mut [u64], mem: &[u8], tile: u64, ep: u64, r: ReceiveFields) {
-    put(words, mem, tile, ep, Endpoint::Receive(r));
+fn put_receiver<W: Write>(
+    out: &mut W,
+    words: &mut [u64],
+    mem: &[u8],
+    tile: u64,
+    ep: u64,
+    r: ReceiveFields,
+) -> io::Result<()> {
+    put(out, words, mem, tile, ep, Endpoint::Receive(r))
 }
 
 // All endpoints of the stage, on words that are zero.
-fn set_up(words: &mut Table, mem: &Memory, acting: Endpoint, reply: Endpoint) {
+fn set_up<W: Write>(
+    out: &mut W,
+    words: &mut Table,
+    mem: &Memory,
+    acting: Endpoint,
+    reply: Endpoint,
+) -> io::Result<()> {
     let r = receiver();
-    put(words, mem, 0, 4, acting);
-    put(words, mem, 0, 20, reply);
-    put_receiver(words, mem, 0, 6, r);
-    put_receiver(words, mem, 1, READY as u64, r);
-    put_receiver(words, mem, 1, FULL as u64, with_masks(r, 3, 3));
-    put_receiver(words, mem, 1, SMALL as u64, with_slot_size(r, 5));
-    put_receiver(words, mem, 1, PAST as u64, with_rpl_eps(r, 63));
+    put(out, words, mem, 0, 4, acting)?;
+    put(out, words, mem, 0, 20, reply)?;
+    put_receiver(out, words, mem, 0, 6, r)?;
+    put_receiver(out, words, mem, 1, READY as u64, r)?;
+    put_receiver(out, words, mem, 1, FULL as u64, with_masks(r, 3, 3))?;
+    put_receiver(out, words, mem, 1, SMALL as u64, with_slot_size(r, 5))?;
+    put_receiver(out, words, mem, 1, PAST as u64, with_rpl_eps(r, 63))
 }
 
 // Sets the machine up on lent words, records and bytes that are zero, with activity 5 on both tiles, and carries the command out.
-fn play_shared(
+fn play_shared<W: Write>(
+    out: &mut W,
     words: &mut Table,
     sharing: &mut Sharing,
     mem: &mut Memory,
     s: Stage,
     c: Command,
-) -> Completion {
+) -> io::Result<Completion> {
     let acting = s.acting;
     let reply = s.reply;
     let board = c.board;
     let registers = c.registers;
-    set_up(words, mem, acting, reply);
+    set_up(out, words, mem, acting, reply)?;
     words[381] = s.stray;
     sharing[0] = 5;
     sharing[67] = 5;
-    machine::carry_out(
+    Ok(machine::carry_out(
         board, words, sharing, mem, c.tile, c.opcode, c.ep, registers,
-    )
+    ))
 }
 
-pub fn play(words: &mut Table, mem: &mut Memory, s: Stage, c: Command) -> Completion {
+pub fn play<W: Write>(
+    out: &mut W,
+    words: &mut Table,
+    mem: &mut Memory,
+    s: Stage,
+    c: Command,
+) -> io::Result<Completion> {
     let mut sharing = [0u64; 134];
-    play_shared(words, &mut sharing, mem, s, c)
+    play_shared(out, words, &mut sharing, mem, s, c)
 }
 
 // The name of a command, as a column.
-fn name(opcode: u64) {
+fn name<W: Write>(out: &mut W, opcode: u64) -> io::Result<()> {
     match opcode {
-        IDLE => say(b"IDLE        "),
-        SEND => say(b"SEND        "),
-        REPLY => say(b"REPLY       "),
-        READ => say(b"READ        "),
-        WRITE => say(b"WRITE       "),
-        FETCH => say(b"FETCH       "),
-        ACK_MSG => say(b"ACK_MSG     "),
-        _ => say(b"opcode 7    "),
+        IDLE => say(out, b"IDLE        "),
+        SEND => say(out, b"SEND        "),
+        REPLY => say(out, b"REPLY       "),
+        READ => say(out, b"READ        "),
+        WRITE => say(out, b"WRITE       "),
+        FETCH => say(out, b"FETCH       "),
+        ACK_MSG => say(out, b"ACK_MSG     "),
+        _ => say(out, b"opcode 7    "),
     }
 }
 
 // A case: its command on a fresh machine, and its line.
-pub fn run(what: &[u8], should: u64, s: Stage, c: Command) {
+pub fn run<W: Write>(
+    out: &mut W,
+    what: &[u8],
+    should: u64,
+    s: Stage,
+    c: Command,
+) -> io::Result<()> {
     let mut words = [0u64; 384];
     let mut mem = [0u8; 16384];
-    let done = play(&mut words, &mut mem, s, c);
+    let done = play(out, &mut words, &mut mem, s, c)?;
     let answer = done.answer;
-    name(c.opcode);
-    report_answer(what, answer, should);
+    name(out, c.opcode)?;
+    report_answer(out, what, answer, should)
 }
 
 // The host's refusals, which come before all others: a tile has fewer pages than are lent, the table is not good, and the acting tile does not
 // exist.
-pub fn host_refusals(s: Stage, c: Command) {
+pub fn host_refusals<W: Write>(out: &mut W, s: Stage, c: Command) -> io::Result<()> {
     let board = Board {
         tiles: 2,
         pages: 0x01_02,
     };
     run(
+        out,
         b"tile 1 has one page, two are lent",
         100,
         s,
         Command { board, ..c },
-    );
-    run(b"an endpoint is of type 4", 100, Stage { stray: 4, ..s }, c);
-    run(b"the acting tile is 2", 101, s, Command { tile: 2, ..c });
+    )?;
+    run(
+        out,
+        b"an endpoint is of type 4",
+        100,
+        Stage { stray: 4, ..s },
+        c,
+    )?;
+    run(
+        out,
+        b"the acting tile is 2",
+        101,
+        s,
+        Command { tile: 2, ..c },
+    )
 }
 
 // The refusal of a command that asks for an endpoint of some kind, and finds none: endpoint 4 is INVALID, and endpoint 64 reads
 // as INVALID.
-pub fn endpoint_missing(should: u64, c: Command) {
+pub fn endpoint_missing<W: Write>(out: &mut W, should: u64, c: Command) -> io::Result<()> {
     let s = stage_of(Endpoint::Invalid);
-    run(b"the endpoint is INVALID", should, s, c);
-    run(b"the endpoint is 64", should, s, Command { ep: 64, ..c });
+    run(out, b"the endpoint is INVALID", should, s, c)?;
+    run(
+        out,
+        b"the endpoint is 64",
+        should,
+        s,
+        Command { ep: 64, ..c },
+    )
 }
