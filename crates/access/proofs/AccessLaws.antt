@@ -1,17 +1,16 @@
 -- What an accepted READ or WRITE of some bytes is known to have: both ranges lie within the lent bytes. Assumes nothing.
 use Prim.Native.Nat.{ℕ, ◌+◌, ◌<◌, ◌≤◌}
-use mathlib.Core.Bool.{Bool, true, false}
+use mathlib.Core.Bool.{Bool}
 use mathlib.Core.List.{List}
-use mathlib.Core.Path.{◌≡◌, refl, sym, ap, ◌∙◌}
+use mathlib.Core.Path.{◌≡◌, sym, ◌∙◌}
 use native.Mathlib.Omega.{arith}
-use lib.Dec.{eqb, leb}
 use lib.ListN.{length}
 use borrow.Author.Tests.{leb-false, ne_eqb}
 use Rattle.numbers.specs.Choice.{◌gives◌else◌}
 use Rattle.numbers.proofs.SumLaws.{above-false}
 use Rattle.answers.specs.declared.Answer.{Answer}
 use Rattle.answers.specs.declared.Answer.TheVariants.{None}
-use Rattle.board.specs.Board.{start_of, size_of, bytes_of}
+use Rattle.board.specs.Board.{size_of, bytes_of}
 use Rattle.board.specs.declared.Board.{Board}
 use Rattle.board.proofs.BoardLaws.{range_inside}
 use Rattle.memory.specs.Bytes.{part, put}

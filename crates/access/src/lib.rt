@@ -1,5 +1,6 @@
 // READ and WRITE, on a checked machine (document 01, "The commands, checks in order").
 #![tactic(auto)]
+
 ghost use Rattle.std.specs.Prelude.{◌≡◌, true, ◌+◌, ◌<◌, ◌≤◌, length};
 ghost use Rattle.board.specs.Board.{allowed, size_of, bytes_of};
 ghost use Rattle.table.specs.Table.{view};

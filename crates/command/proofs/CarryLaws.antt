@@ -4,13 +4,10 @@ use Prim.Native.Nat.{ℕ}
 use mathlib.Core.Bool.{Bool, true, false, cond}
 use mathlib.Core.List.{List, [], ◌∷◌}
 use mathlib.Core.Path.{◌≡◌, refl}
-use types.Run.{OneOf}
-use denote.Enum.Declared.{tag_of}
 use Rattle.numbers.specs.Choice.{◌gives◌else◌}
 use Rattle.answers.specs.declared.Error.{Error}
 use Rattle.answers.specs.declared.Answer.{Answer}
 use Rattle.answers.specs.declared.Answer.TheVariants.{None, Refused}
-use Rattle.answers.specs.contracts.Answer as answer-type
 use Rattle.bits.specs.declared.Found.{Found}
 use Rattle.bits.specs.declared.Found.TheVariants.{At, Nothing}
 use Rattle.memory.specs.Bytes.{put}
@@ -19,7 +16,6 @@ use Rattle.endpoint.specs.declared.Endpoint.TheVariants.{Send, Receive, Memory}
 use Rattle.endpoint.specs.declared.SendFields.{SendFields}
 use Rattle.endpoint.specs.declared.ReceiveFields.{ReceiveFields}
 use Rattle.endpoint.specs.declared.MemoryFields.{MemoryFields}
-use Rattle.endpoint.specs.contracts.Endpoint as endpoint-type
 use Rattle.sharing.specs.declared.Note.{Note}
 use Rattle.table.specs.Table.{stored}
 use Rattle.command.specs.Checks.{Check, ◌⇒◌, first, ◌then◌, ◌fails◌else◌}

@@ -23,7 +23,6 @@ use Rattle.endpoint.specs.declared.Endpoint.TheVariants.{Invalid, Send, Receive,
 use Rattle.endpoint.specs.declared.SendFields.{SendFields}
 use Rattle.endpoint.specs.declared.ReceiveFields.{ReceiveFields}
 use Rattle.endpoint.specs.declared.MemoryFields.{MemoryFields}
-use Rattle.endpoint.specs.contracts.Endpoint as endpoint-type
 use Rattle.command.specs.Checks.{Check, ◌⇒◌, first, ◌then◌}
 use Rattle.command.specs.Local.{crosses_page, outside}
 use Rattle.command.specs.declared.Registers.{Registers}

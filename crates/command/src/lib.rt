@@ -1,6 +1,7 @@
 // What a command is (document 01, "The commands, checks in order"): the registers that it is given, an ordered list of checks,
 // and what it does where none holds. Here are the shapes that all commands share, the page rule and the local range.
 #![tactic(auto)]
+
 ghost use Rattle.std.specs.Prelude.{◌≡◌, true, ◌<◌, ◌≤◌};
 ghost use Rattle.board.specs.Board.{allowed, size_of};
 ghost use Rattle.answers.specs.declared.Answer.TheVariants.{Refused};

@@ -2,11 +2,9 @@
 -- the target is known. Assumes nothing.
 use Prim.Native.Nat.{ℕ, ◌+◌, ◌*◌, ◌<◌, ◌≤◌}
 use mathlib.Core.Bool.{Bool, true, false}
-use mathlib.Core.List.{List, [], ◌∷◌}
+use mathlib.Core.List.{List}
 use mathlib.Core.Path.{◌≡◌, refl, sym, ap, ◌∙◌}
 use native.Mathlib.Omega.{arith}
-use types.Run.{OneOf}
-use denote.Enum.Declared.{tag_of}
 use lib.ListN.{length}
 use borrow.Author.Tests.{leb-false}
 use Rattle.numbers.specs.Choice.{◌gives◌else◌}
@@ -24,7 +22,6 @@ use Rattle.endpoint.specs.declared.Endpoint.{Endpoint}
 use Rattle.endpoint.specs.declared.Endpoint.TheVariants.{Invalid, Send, Receive, Memory}
 use Rattle.endpoint.specs.declared.SendFields.{SendFields}
 use Rattle.endpoint.specs.declared.ReceiveFields.{ReceiveFields}
-use Rattle.endpoint.specs.contracts.Endpoint as endpoint-type
 use Rattle.table.specs.Table.{Table, endpoint_at, view}
 use Rattle.sharing.specs.Sharing.{Inside, Shared, crowded}
 use Rattle.sharing.proofs.NoteLaws.{inside}

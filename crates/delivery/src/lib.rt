@@ -1,6 +1,7 @@
 // The delivery of a message (document 01, "Delivery"): its checks, the slot that it takes, its header, and how it is stored.
 // SEND and REPLY share it; it knows nothing of credits.
 #![tactic(auto)]
+
 ghost use Rattle.std.specs.Prelude.{◌≡◌, [], ◌∷◌, ◌+◌, ◌*◌, ◌<◌, ◌≤◌, ◌^◌, length};
 ghost use Rattle.numbers.specs.Tests.{All};
 ghost use Rattle.board.specs.Board.{allowed, start_of, size_of, bytes_of};

@@ -1,13 +1,11 @@
 -- What an accepted REPLY is known to have before its delivery, each fact by its check's place, and the rules of its writes.
 -- Assumes nothing.
-use Prim.Native.Nat.{ℕ, ◌+◌, ◌<◌}
-use mathlib.Core.Bool.{Bool, true, false, not}
+use Prim.Native.Nat.{ℕ, ◌<◌}
+use mathlib.Core.Bool.{Bool, true, false}
 use mathlib.Core.List.{List, [], ◌∷◌}
 use mathlib.Core.Path.{◌≡◌, sym, ap, ◌∙◌}
 use native.Mathlib.Omega.{arith}
-use types.Run.{OneOf}
-use denote.Enum.Declared.{tag_of}
-use borrow.Author.Tests.{ne_eqb, leb-false, not-true, not-false}
+use borrow.Author.Tests.{ne_eqb, leb-false}
 use Rattle.numbers.specs.Choice.{◌gives◌else◌}
 use Rattle.numbers.specs.Tests.{All}
 use Rattle.numbers.proofs.SumLaws.{above-false}
@@ -22,7 +20,6 @@ use Rattle.endpoint.specs.declared.Endpoint.{Endpoint}
 use Rattle.endpoint.specs.declared.Endpoint.TheVariants.{Send, Receive}
 use Rattle.endpoint.specs.declared.SendFields.{SendFields}
 use Rattle.endpoint.specs.declared.ReceiveFields.{ReceiveFields}
-use Rattle.endpoint.specs.contracts.Endpoint as endpoint-type
 use Rattle.endpoint.proofs.EndpointLaws.{fits-true}
 use Rattle.table.specs.Table.{Table, endpoint_at, view}
 use Rattle.slots.specs.Slots.{slots_of, slot_named, Usable}

@@ -3,7 +3,7 @@
 -- is 63, the record read at the start is written back with cur_crd one lower.
 -- The message that came is noted at the receiver's tile.
 -- Mind: the local range is checked for size 0 too; a refused SEND takes no credit.
-use Rattle.std.specs.Prelude.{ℕ, ◌+◌, Bool, true, false, not, ◌&&◌, List, [], ◌∷◌, eqb}
+use Rattle.std.specs.Prelude.{ℕ, ◌+◌, true, false, not, ◌&&◌, List, [], ◌∷◌, eqb}
 use Rattle.numbers.specs.Choice.{◌gives◌else◌}
 use Rattle.answers.specs.declared.Error.TheVariants.{NoSep, SendReplyEp, ForeignEp, NoRep, Abort, NoCredits}
 use Rattle.board.specs.declared.Board.{Board}

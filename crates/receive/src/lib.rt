@@ -1,5 +1,6 @@
 // FETCH and ACK_MSG, on a checked machine (document 01, "The commands, checks in order").
 #![tactic(auto)]
+
 ghost use Rattle.std.specs.Prelude.{◌≡◌, List, ℕ, ◌+◌, ◌*◌, ◌<◌, ◌≤◌, length};
 ghost use Rattle.slots.specs.Slots.{Usable, InReach};
 ghost use Rattle.table.specs.Table.{view};

@@ -1,7 +1,7 @@
 -- What the functions on slots need and give: an endpoint read from a checked machine is usable, a slot that a search found is one of
 -- the slots, and the rules by which `search` reads a call's answer. Assumes nothing.
-use Prim.Native.Nat.{ℕ, ◌+◌, ◌^◌, ◌<◌, ◌≤◌}
-use mathlib.Core.Bool.{Bool, true, false, not}
+use Prim.Native.Nat.{ℕ, ◌+◌, ◌<◌, ◌≤◌}
+use mathlib.Core.Bool.{Bool, true, false}
 use mathlib.Core.List.{List}
 use mathlib.Core.Path.{◌≡◌, sym, ◌∙◌}
 use native.Mathlib.Nat.{lt_of_lt_of_le}
@@ -11,9 +11,8 @@ use lib.Pow.{pow_mono}
 use borrow.Author.Tests.{le-leb, lt-leb, ne_eqb}
 use Rattle.numbers.specs.Choice.{◌gives◌else◌}
 use Rattle.numbers.proofs.SumLaws.{above-false}
-use Rattle.bits.specs.Bits.{has_bit}
 use Rattle.bits.specs.declared.Found.{Found}
-use Rattle.bits.specs.declared.Found.TheVariants.{At, Nothing}
+use Rattle.bits.specs.declared.Found.TheVariants.{At}
 use Rattle.bits.proofs.SlotLaws.{Outcome, outcome}
 use Rattle.board.specs.declared.Board.{Board}
 use Rattle.endpoint.specs.Acceptable.{acceptable}

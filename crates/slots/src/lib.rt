@@ -1,6 +1,7 @@
 // The slots of a receive endpoint: the two searches, the slot that arg0 names, the reply range, and the record after a change
 // of one slot (document 01, "The commands, checks in order"). FETCH, ACK_MSG, REPLY and the delivery share them.
 #![tactic(auto)]
+
 ghost use Rattle.std.specs.Prelude.{◌≡◌, ◌*◌, ◌^◌, ◌<◌};
 ghost use Rattle.bits.specs.Bits.{has_bit};
 ghost use Rattle.slots.specs.Slots.{slots_of, free_slot, unread_slot, slot_named, range_past, range_bad, filled, fetched, cleared, Usable};

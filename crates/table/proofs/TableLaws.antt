@@ -1,9 +1,9 @@
 -- The laws of the table: what is written is read back, everything else stays, and a good table stays good. Assumes nothing.
-use Prim.Native.Nat.{ℕ, ◌+◌, ◌*◌, ◌/◌, ◌<◌, ◌≤◌}
+use Prim.Native.Nat.{ℕ, ◌+◌, ◌*◌, ◌<◌}
 use mathlib.Core.Bool.{Bool, true, false, cond}
 use mathlib.Core.List.{List}
 use mathlib.Core.Logic.{◌≢◌}
-use mathlib.Core.Path.{◌≡◌, refl, sym, ap, ◌∙◌, fun_ext}
+use mathlib.Core.Path.{◌≡◌, refl, fun_ext}
 use native.Mathlib.Omega.{arith}
 use native.Mathlib.Decide.{ℕ_discrete}
 use borrow.Author.Tests.{eqb-true, eqb-false, leb-false, lt-leb}
@@ -14,7 +14,7 @@ use Rattle.bits.proofs.SearchLaws.{all-at, all_true}
 use Rattle.board.specs.declared.Board.{Board}
 use Rattle.endpoint.specs.Endpoint.{fields_of, words_of}
 use Rattle.endpoint.specs.Kinds.{is_invalid}
-use Rattle.endpoint.specs.Acceptable.{acceptable, acceptable_words}
+use Rattle.endpoint.specs.Acceptable.{acceptable}
 use Rattle.endpoint.specs.declared.Endpoint.{Endpoint}
 use Rattle.endpoint.specs.declared.Endpoint.TheVariants.{Invalid}
 use Rattle.endpoint.proofs.EndpointLaws.{fits-true}

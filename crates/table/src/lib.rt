@@ -1,5 +1,6 @@
 // The table of endpoints in the lent words: one endpoint read, one written, and the check of all.
 #![tactic(auto)]
+
 ghost use Rattle.std.specs.Prelude.{◌≡◌, ◌+◌, ◌*◌, ◌<◌, ◌≤◌, length};
 ghost use Rattle.table.specs.Words.{Inside, three, set_three, words_nth, put_nth};
 ghost use Rattle.table.specs.Table.{place, endpoint_at, view, stored};

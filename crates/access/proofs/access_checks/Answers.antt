@@ -1,5 +1,4 @@
 -- `access::access_checks` meets its contract. Assumes nothing.
-use borrow.Author.Rules.{rules}
 use Rattle.command.proofs.CheckLaws.{checks}
 use Rattle.access.specs.Access.{access_checks}
 use Rattle.access.proofs.access_checks.Goals as goal

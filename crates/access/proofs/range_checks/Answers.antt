@@ -1,5 +1,4 @@
 -- `access::range_checks` meets its contract. Assumes nothing.
-use borrow.Author.Rules.{rules}
 use Rattle.command.proofs.CheckLaws.{checks}
 use Rattle.access.specs.Access.{range_checks}
 use Rattle.access.proofs.range_checks.Goals as goal

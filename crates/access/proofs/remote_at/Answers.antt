@@ -1,5 +1,4 @@
 -- `access::remote_at` meets its contract: the sum is a place among the lent bytes. Assumes nothing.
-use borrow.Author.Rules.{rules}
 use Prim.Native.Nat.{◌+◌}
 use native.Mathlib.Omega.{arith}
 use Rattle.board.proofs.BoardLaws.{tile-inside, bounds, place-small}

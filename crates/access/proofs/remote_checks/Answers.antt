@@ -1,5 +1,4 @@
 -- `access::remote_checks` meets its contract. Assumes nothing.
-use borrow.Author.Rules.{rules}
 use Rattle.command.proofs.CheckLaws.{checks}
 use Rattle.access.specs.Access.{remote_checks}
 use Rattle.access.proofs.remote_checks.Goals as goal

@@ -1,5 +1,4 @@
 -- `command::crosses_page` meets its contract. Assumes nothing.
-use borrow.Author.Rules.{rules}
 use Rattle.command.specs.Local.{crosses_page}
 use Rattle.command.proofs.crosses_page.Goals as goal
 

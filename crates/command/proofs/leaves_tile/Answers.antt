@@ -1,6 +1,4 @@
 -- `command::leaves_tile` meets its contract. Assumes nothing.
-use borrow.Author.Rules.{rules}
-use mathlib.Core.Path.{◌∙◌}
 use Rattle.command.specs.Local.{outside}
 use Rattle.command.proofs.leaves_tile.Goals as goal
 

@@ -1,5 +1,4 @@
 -- `command::local_at` meets its contract: the sum is a place among the lent bytes. Assumes nothing.
-use borrow.Author.Rules.{rules}
 use native.Mathlib.Omega.{arith}
 use Rattle.board.proofs.BoardLaws.{place-small}
 use Rattle.command.specs.Local.{local_at}

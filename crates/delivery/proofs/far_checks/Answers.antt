@@ -1,5 +1,4 @@
 -- `delivery::far_checks` meets its contract. Assumes nothing.
-use borrow.Author.Rules.{rules}
 use Rattle.command.proofs.CheckLaws.{checks}
 use Rattle.delivery.specs.Delivery.{far_checks}
 use Rattle.delivery.proofs.far_checks.Goals as goal

@@ -1,5 +1,4 @@
 -- `delivery::find_target` meets its contract. Assumes nothing.
-use borrow.Author.Rules.{rules}
 use Rattle.delivery.proofs.TargetLaws.{targets, far-words, far-record, usable-far}
 use Rattle.delivery.specs.Target.{target_of}
 use Rattle.delivery.proofs.find_target.Goals as goal

@@ -1,6 +1,4 @@
 -- `delivery::header_word` meets its contract: each field stands at its place, and nothing is carried over. Assumes nothing.
-use borrow.Author.Rules.{rules}
-use mathlib.Core.Path.{refl}
 use native.Mathlib.Omega.{arith}
 use Rattle.delivery.specs.Header.{header_word}
 use Rattle.delivery.proofs.header_word.Goals as goal

@@ -1,5 +1,4 @@
 -- `delivery::message_checks` meets its contract. Assumes nothing.
-use borrow.Author.Rules.{rules}
 use Rattle.command.proofs.CheckLaws.{checks}
 use Rattle.delivery.specs.Delivery.{message_checks}
 use Rattle.delivery.proofs.TargetLaws.{flag-too-long}

@@ -1,5 +1,4 @@
 -- `delivery::receiver_target` meets its contract. Assumes nothing.
-use borrow.Author.Rules.{rules}
 use Rattle.delivery.proofs.TargetLaws.{targets}
 use Rattle.delivery.specs.Target.{receiver_target}
 use Rattle.delivery.proofs.receiver_target.Goals as goal

@@ -1,5 +1,4 @@
 -- `delivery::stow` meets its contract. Assumes nothing.
-use borrow.Author.Rules.{rules}
 use Rattle.delivery.proofs.StowLaws.{local-range, slot-range, stowed}
 use Rattle.delivery.proofs.stow.Goals as goal
 

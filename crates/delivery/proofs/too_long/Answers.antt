@@ -1,5 +1,4 @@
 -- `delivery::too_long` meets its contract. Assumes nothing.
-use borrow.Author.Rules.{rules}
 use Rattle.delivery.specs.Delivery.{too_long}
 use Rattle.delivery.proofs.too_long.Goals as goal
 

@@ -1,5 +1,4 @@
 -- `receive::fetch_write` meets its contract. Assumes nothing.
-use borrow.Author.Rules.{rules}
 use Rattle.command.proofs.CheckLaws.{tests}
 use Rattle.command.proofs.CarryLaws.{carry}
 use Rattle.receive.specs.Fetch.{fetch_writes}

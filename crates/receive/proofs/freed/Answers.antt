@@ -1,5 +1,4 @@
 -- `receive::freed` meets its contract: `is_unread` says which of the two is noted. Assumes nothing.
-use borrow.Author.Rules.{rules}
 use mathlib.Core.Path.{refl, sym, ◌∙◌}
 use Rattle.numbers.proofs.ChoiceLaws.{chosen, declined}
 use Rattle.receive.specs.Ack.{freeing}

@@ -1,5 +1,4 @@
 -- `slots::fetch` meets its contract. Assumes nothing.
-use borrow.Author.Rules.{rules}
 use Rattle.slots.specs.Slots.{fetched}
 use Rattle.slots.proofs.fetch.Goals as goal
 

@@ -1,5 +1,4 @@
 -- `slots::fill` meets its contract. Assumes nothing.
-use borrow.Author.Rules.{rules}
 use Rattle.slots.specs.Slots.{filled}
 use Rattle.slots.proofs.fill.Goals as goal
 

@@ -1,5 +1,4 @@
 -- `slots::free_slot` meets its contract. Assumes nothing.
-use borrow.Author.Rules.{rules}
 use Rattle.slots.specs.Slots.{free_slot}
 use Rattle.slots.proofs.free_slot.Goals as goal
 

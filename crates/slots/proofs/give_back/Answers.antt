@@ -1,5 +1,4 @@
 -- `slots::give_back` meets its contract. Assumes nothing.
-use borrow.Author.Rules.{rules}
 use Rattle.slots.specs.Slots.{cleared}
 use Rattle.slots.proofs.give_back.Goals as goal
 

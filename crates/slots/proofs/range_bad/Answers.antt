@@ -1,5 +1,4 @@
 -- `slots::range_bad` meets its contract, by the two laws of a choice. Assumes nothing.
-use borrow.Author.Rules.{rules}
 use mathlib.Core.Path.{refl}
 use borrow.Author.Tests.{eq-eqb, ne_eqb}
 use Rattle.numbers.proofs.ChoiceLaws.{chosen, declined}

@@ -1,5 +1,4 @@
 -- `slots::range_past` meets its contract. Assumes nothing.
-use borrow.Author.Rules.{rules}
 use Rattle.slots.specs.Slots.{range_past}
 use Rattle.slots.proofs.range_past.Goals as goal
 

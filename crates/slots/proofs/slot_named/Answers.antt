@@ -1,5 +1,4 @@
 -- `slots::slot_named` meets its contract. Assumes nothing.
-use borrow.Author.Rules.{rules}
 use mathlib.Core.Path.{refl}
 use Rattle.slots.specs.Slots.{slot_named}
 use Rattle.slots.proofs.slot_named.Goals as goal

@@ -1,5 +1,4 @@
 -- `slots::unread_slot` meets its contract. Assumes nothing.
-use borrow.Author.Rules.{rules}
 use Rattle.slots.specs.Slots.{unread_slot}
 use Rattle.slots.proofs.unread_slot.Goals as goal
 

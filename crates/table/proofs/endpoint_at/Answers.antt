@@ -1,5 +1,4 @@
 -- `table::endpoint_at` meets its contract. Assumes nothing.
-use borrow.Author.Rules.{rules}
 use borrow.Author.Tests.{le-leb, lt-leb}
 use mathlib.Core.Path.{refl, ◌∙◌, ap}
 use Rattle.numbers.proofs.ChoiceLaws.{chosen, declined}

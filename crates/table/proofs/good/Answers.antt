@@ -1,11 +1,7 @@
 -- `table::good` meets its contract: each endpoint passed is acceptable. Assumes nothing.
-use borrow.Author.Rules.{rules}
-use borrow.Author.Count.{below_more}
-use borrow.Author.Tests.{not-true, not-false}
 use native.Mathlib.Omega.{arith}
-use Prim.Native.Nat.{ℕ, ◌-◌, ◌*◌, ◌≤◌, ◌<◌}
+use Prim.Native.Nat.{◌*◌}
 use mathlib.Core.Path.{◌≡◌, sym, ◌∙◌}
-use mathlib.Core.Bool.{true}
 use Rattle.bits.proofs.SearchLaws.{all_true, all-false}
 use Rattle.table.specs.Good.{acceptable_at, good_table}
 use Rattle.table.proofs.good.Goals as goal

@@ -1,12 +1,8 @@
 -- `table::good` meets its contract: each endpoint passed is acceptable. Assumes nothing.
-use borrow.Author.Count.{below_more}
-use borrow.Author.Tests.{not-true, not-false}
-use native.Mathlib.Omega.{arith}
-use Prim.Native.Nat.{ℕ, ◌-◌, ◌*◌, ◌≤◌, ◌<◌}
-use mathlib.Core.Path.{◌≡◌, sym, ◌∙◌}
+use Prim.Native.Nat.{ℕ, ◌-◌, ◌≤◌, ◌<◌}
+use mathlib.Core.Path.{◌≡◌}
 use mathlib.Core.Bool.{true}
-use Rattle.bits.proofs.SearchLaws.{all_true, all-false}
-use Rattle.table.specs.Good.{acceptable_at, good_table}
+use Rattle.table.specs.Good.{acceptable_at}
 use Rattle.table.proofs.good.Given as goal
 
 abbrev pub invariant-loop-q : goal.invariant-loop-q

@@ -1,5 +1,4 @@
 -- `table::read_nth` meets its contract. Assumes nothing.
-use borrow.Author.Rules.{rules}
 use Rattle.table.specs.Words.{words_nth}
 use Rattle.table.proofs.read_nth.Goals as goal
 

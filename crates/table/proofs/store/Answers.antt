@@ -1,5 +1,4 @@
 -- `table::store` meets its contract. Assumes nothing.
-use borrow.Author.Rules.{rules}
 use Rattle.table.specs.Table.{stored}
 use Rattle.table.proofs.store.Goals as goal
 

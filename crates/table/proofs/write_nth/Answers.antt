@@ -1,5 +1,4 @@
 -- `table::write_nth` meets its contract. Assumes nothing.
-use borrow.Author.Rules.{rules}
 use Rattle.table.specs.Words.{put_nth}
 use Rattle.table.proofs.write_nth.Goals as goal
 

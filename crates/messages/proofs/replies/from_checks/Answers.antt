@@ -1,5 +1,4 @@
 -- `messages::replies/from_checks` meets its contract. Assumes nothing.
-use borrow.Author.Rules.{rules}
 use Rattle.command.proofs.CheckLaws.{checks}
 use Rattle.slots.proofs.SlotFacts.{slot-flags}
 use Rattle.messages.specs.Reply.{from_checks}

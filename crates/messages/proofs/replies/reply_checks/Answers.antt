@@ -1,5 +1,4 @@
 -- `messages::replies/reply_checks` meets its contract. Assumes nothing.
-use borrow.Author.Rules.{rules}
 use Rattle.command.proofs.CheckLaws.{checks}
 use Rattle.messages.specs.Reply.{reply_checks}
 use Rattle.messages.proofs.ReplyLaws.{flag-credit}

@@ -1,5 +1,4 @@
 -- `messages::replies/reply_write` meets its contract. Assumes nothing.
-use borrow.Author.Rules.{rules}
 use Rattle.command.proofs.CarryLaws.{one_by_one}
 use Rattle.messages.proofs.replies.reply_write.Goals as goal
 

@@ -1,5 +1,4 @@
 -- `messages::replies/response_header` meets its contract. Assumes nothing.
-use borrow.Author.Rules.{rules}
 use mathlib.Core.Path.{refl}
 use Rattle.messages.specs.Reply.{response}
 use Rattle.messages.proofs.replies.response_header.Goals as goal

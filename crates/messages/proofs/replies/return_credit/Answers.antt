@@ -1,9 +1,8 @@
 -- `messages::replies/return_credit` meets its contract. Assumes nothing.
-use borrow.Author.Rules.{rules}
 use Rattle.command.proofs.CheckLaws.{tests}
 use Rattle.command.proofs.CarryLaws.{carry}
 use Rattle.messages.specs.Reply.{credit_to}
-use Rattle.messages.proofs.ReplyLaws.{crediting, room-there}
+use Rattle.messages.proofs.ReplyLaws.{crediting}
 use Rattle.messages.proofs.replies.return_credit.Goals as goal
 
 pub returns-then-h-eq65535 : goal.returns-then-h-eq65535

@@ -1,5 +1,4 @@
 -- `messages::requests/deliver_request` meets its contract. Assumes nothing.
-use borrow.Author.Rules.{rules}
 use Rattle.command.proofs.CarryLaws.{carry}
 use Rattle.delivery.proofs.TargetLaws.{landings}
 use Rattle.command.specs.Outcome.{carried}

@@ -1,5 +1,4 @@
 -- `messages::requests/last_checks` meets its contract. Assumes nothing.
-use borrow.Author.Rules.{rules}
 use Rattle.command.proofs.CheckLaws.{checks}
 use Rattle.messages.specs.Send.{last_checks}
 use Rattle.messages.proofs.requests.last_checks.Goals as goal

@@ -1,5 +1,4 @@
 -- `messages::requests/request_header` meets its contract: each field is what the definition says. Assumes nothing.
-use borrow.Author.Rules.{rules}
 use Rattle.messages.specs.Send.{request}
 use Rattle.messages.proofs.MessageLaws.{tile-fits}
 use Rattle.messages.proofs.requests.request_header.Goals as goal

@@ -1,5 +1,4 @@
 -- `messages::requests/rsize_of` meets its contract. Assumes nothing.
-use borrow.Author.Rules.{rules}
 use Rattle.command.proofs.CheckLaws.{checks}
 use Rattle.messages.specs.Send.{rsize_of}
 use Rattle.messages.proofs.SendLaws.{rsize-of-receive, rsize-of-other}

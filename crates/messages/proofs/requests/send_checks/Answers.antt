@@ -1,5 +1,4 @@
 -- `messages::requests/send_checks` meets its contract. Assumes nothing.
-use borrow.Author.Rules.{rules}
 use Rattle.command.proofs.CheckLaws.{checks}
 use Rattle.messages.specs.Send.{send_checks}
 use Rattle.messages.proofs.requests.send_checks.Goals as goal

@@ -1,5 +1,4 @@
 -- `messages::requests/send_write` meets its contract. Assumes nothing.
-use borrow.Author.Rules.{rules}
 use Rattle.command.proofs.CarryLaws.{one_by_one}
 use Rattle.messages.specs.Send.{send_writes}
 use Rattle.messages.proofs.requests.send_write.Goals as goal

@@ -1,5 +1,4 @@
 -- `messages::requests/sep_of` meets its contract. Assumes nothing.
-use borrow.Author.Rules.{rules}
 use Rattle.command.proofs.CheckLaws.{checks}
 use Rattle.messages.specs.Send.{sep_of}
 use Rattle.messages.proofs.requests.sep_of.Goals as goal

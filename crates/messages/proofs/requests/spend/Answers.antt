@@ -1,5 +1,4 @@
 -- `messages::requests/spend` meets its contract. Assumes nothing.
-use borrow.Author.Rules.{rules}
 use Rattle.command.proofs.CheckLaws.{tests}
 use Rattle.command.proofs.CarryLaws.{carry}
 use Rattle.messages.specs.Send.{credit_spent}
