@@ -3,7 +3,6 @@
 use Prim.Native.Nat.{ℕ, ◌+◌, ◌*◌, ◌^◌, ◌≤◌, ◌<◌}
 use mathlib.Core.Bool.{Bool, true, false, not, ◌&&◌}
 use mathlib.Core.List.{List, [], ◌∷◌}
-use mathlib.Core.Logic.{◌≢◌}
 use mathlib.Core.Path.{◌≡◌, refl, sym, ap, ◌∙◌}
 use native.Mathlib.Omega.{arith}
 use borrow.Author.Tests.{eqb-true, eqb-false, ne_eqb, leb-false, not-false}
@@ -18,7 +17,7 @@ use Rattle.endpoint.specs.Kinds.{is_invalid, is_send, is_receive, send_of, recei
 use Rattle.endpoint.specs.declared.SendFields.{SendFields}
 use Rattle.endpoint.specs.declared.ReceiveFields.{ReceiveFields}
 use Rattle.endpoint.specs.declared.Endpoint.{Endpoint}
-use Rattle.endpoint.specs.declared.Endpoint.TheVariants.{Invalid, Send, Receive, Memory}
+use Rattle.endpoint.specs.declared.Endpoint.TheVariants.{Send, Receive}
 use Rattle.table.specs.Table.{Table, place, endpoint_at}
 use Rattle.table.proofs.TableLaws.{look, live}
 use Rattle.sharing.specs.declared.Note.TheVariants.{Read}

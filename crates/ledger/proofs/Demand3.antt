@@ -12,13 +12,12 @@ use Rattle.answers.specs.declared.Answer.{Answer}
 use Rattle.answers.specs.declared.Answer.TheVariants.{None, Refused}
 use Rattle.answers.specs.declared.Error.{Error}
 use Rattle.answers.specs.declared.Error.TheVariants.{RecvNoSpace}
-use Rattle.board.specs.declared.Board.{Board}
 use Rattle.endpoint.specs.Kinds.{send_of, receive_of}
 use Rattle.table.specs.Table.{Table, place, endpoint_at, view}
 use Rattle.slots.specs.Slots.{slots_of}
 use Rattle.sharing.specs.Sharing.{own_of, waiting_of}
 use Rattle.command.specs.Checks.{first, ◌then◌, ◌fails◌else◌}
-use Rattle.command.specs.Command.{Command, nothing, does, ◌noting◌, ◌▸◌, ◌▸▸◌}
+use Rattle.command.specs.Command.{Command, does, ◌noting◌, ◌▸◌, ◌▸▸◌}
 use Rattle.command.specs.Narrow.{Narrow}
 use Rattle.command.specs.Outcome.{outcome, written, tabled, settled}
 use Rattle.command.specs.declared.Registers.{Registers}

@@ -13,7 +13,6 @@ use Rattle.endpoint.specs.declared.Endpoint.TheVariants.{Invalid, Send, Receive}
 use Rattle.table.specs.Table.{Table, place, upd}
 use Rattle.table.proofs.TableLaws.{upd-at, upd-off}
 use Rattle.slots.specs.Slots.{filled}
-use Rattle.wiring.specs.Sums.{sum}
 use Rattle.wiring.specs.Credits.{held, credits_held}
 use Rattle.ledger.specs.Ledger.{Held, nothing, request, Ledger, kept, asks, stow}
 use Rattle.wiring.specs.Sound.{beside}

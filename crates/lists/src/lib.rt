@@ -1,5 +1,6 @@
 // An endpoint as eleven numbers: its kind, the fields of that kind, and zeros (`specs/Fields.antt`).
 #![tactic(auto)]
+
 ghost use Rattle.std.specs.Prelude.{◌≡◌, length};
 ghost use Rattle.endpoint.specs.Layout.{flag};
 ghost use Rattle.lists.specs.Fields.{field_values, send_at, receive_at, memory_at, read_list, same_list, pack_list};

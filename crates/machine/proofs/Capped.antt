@@ -12,7 +12,7 @@ use Rattle.answers.specs.declared.Answer.TheVariants.{None}
 use Rattle.bits.specs.declared.Found.{Found}
 use Rattle.bits.specs.declared.Found.TheVariants.{At, Nothing}
 use Rattle.board.specs.declared.Board.{Board}
-use Rattle.endpoint.specs.Kinds.{is_invalid, is_send, send_of, receive_of}
+use Rattle.endpoint.specs.Kinds.{is_send, send_of, receive_of}
 use Rattle.endpoint.specs.Acceptable.{acceptable}
 use Rattle.endpoint.specs.declared.SendFields.{SendFields}
 use Rattle.endpoint.specs.declared.ReceiveFields.{ReceiveFields}
@@ -27,7 +27,7 @@ use Rattle.slots.specs.Slots.{unread_slot, slot_named}
 use Rattle.command.specs.Checks.{first, ◌then◌}
 use Rattle.command.specs.Command.{Command, Write, ◌⇐◌to◌, does, ◌noting◌, nothing, ◌▸◌, ◌▸▸◌, memory◌or◌gives◌, send◌or◌gives◌, receive◌or◌gives◌, slot◌or◌gives◌, slot◌else◌gives◌}
 use Rattle.command.specs.Narrow.{Narrow}
-use Rattle.command.specs.Outcome.{outcome, tabled, carried}
+use Rattle.command.specs.Outcome.{outcome, tabled}
 use Rattle.command.specs.declared.Registers.{Registers}
 use Rattle.command.proofs.CheckFacts.{passed}
 use Rattle.command.proofs.WriteLaws.{by_answer, carried-refused, settled-accepted}
@@ -41,8 +41,8 @@ use Rattle.credits.proofs.RoomLaws.{has_room}
 use Rattle.receive.specs.Fetch.{fetch_writes, FETCH}
 use Rattle.receive.specs.Ack.{ack_writes, ACK_MSG}
 use Rattle.machine.specs.Machine.{Opcode, op_idle, op_send, op_reply, op_read, op_write, op_fetch, op_ack, op_other, opcode_of, step_of, machine_right, host_checks, command_of, invalidate_of, privileged_of, respond_of}
-use Rattle.machine.specs.Kept.{after, Follows}
-use Rattle.machine.specs.Capped.{endless, above, Capped, Caps, EveryCommandCaps}
+use Rattle.machine.specs.Kept.{Follows}
+use Rattle.machine.specs.Capped.{Capped, Caps, EveryCommandCaps}
 use Rattle.machine.proofs.Fitting.{stands_at, sends, credits-lt}
 use Rattle.machine.proofs.Kept.{held, rest-passed, follows}
 use Rattle.machine.proofs.PrivilegedLaws.{one_of_three}

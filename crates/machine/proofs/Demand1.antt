@@ -22,7 +22,7 @@ use Rattle.slots.specs.Slots.{unread_slot}
 use Rattle.sharing.specs.Sharing.{own_of}
 use Rattle.sharing.specs.Note.{noted}
 use Rattle.command.specs.Checks.{Check, ◌⇒◌, first, ◌then◌}
-use Rattle.command.specs.Command.{Command, does, ◌noting◌, nothing, ◌▸◌, ◌▸▸◌, send◌or◌gives◌, receive◌or◌gives◌, memory◌or◌gives◌, slot◌or◌gives◌, slot◌else◌gives◌}
+use Rattle.command.specs.Command.{Command, does, ◌noting◌, ◌▸◌, ◌▸▸◌, send◌or◌gives◌, receive◌or◌gives◌, memory◌or◌gives◌, slot◌or◌gives◌, slot◌else◌gives◌}
 use Rattle.command.specs.Outcome.{outcome, carried}
 use Rattle.command.specs.declared.Registers.{Registers}
 use Rattle.command.proofs.CheckFacts.{same}

@@ -1,15 +1,14 @@
 -- Where all tiles have the same number of pages, the machine is as it was before T-03. Assumes nothing.
-use Prim.Native.Nat.{ℕ, ◌+◌, ◌*◌, ◌/◌, ◌^◌, ◌≤◌, ◌<◌}
-use mathlib.Core.Bool.{Bool, true, false, not}
-use mathlib.Core.List.{List, [], ◌∷◌}
-use mathlib.Core.Path.{◌≡◌, refl, ap}
+use Prim.Native.Nat.{ℕ, ◌*◌, ◌/◌}
+use mathlib.Core.Bool.{Bool, true, false}
+use mathlib.Core.List.{List}
+use mathlib.Core.Path.{◌≡◌, refl}
 use native.Mathlib.Omega.{arith}
 use borrow.Author.Tests.{leb-false}
-use lib.Dec.{eqb, leb}
+use lib.Dec.{leb}
 use Rattle.bits.specs.Search.{all}
 use Rattle.bits.proofs.SearchLaws.{all-at, all_true}
 use Rattle.numbers.proofs.TestLaws.{same_flag}
-use Rattle.board.specs.Board.{size_of}
 use Rattle.board.specs.Equal.{AsBefore, Alike}
 use Rattle.board.specs.declared.Board.{Board}
 use Rattle.board.proofs.Equal.{as_before}
@@ -22,7 +21,7 @@ use Rattle.command.specs.Local.{outside, local_at}
 use Rattle.access.specs.Access.{remote_checks, remote_at}
 use Rattle.delivery.specs.Delivery.{slot_at}
 use Rattle.machine.specs.Machine.{machine_right}
-use Rattle.machine.specs.Equal.{right_before, remote_before, MachineAsBefore}
+use Rattle.machine.specs.Equal.{remote_before, MachineAsBefore}
 
 module _ (b : Board) (m : ℕ) (same : AsBefore b m) where
   good-same : (ws : List ℕ) → good_table b ws ≡ all (λ q. acceptable_words m (words_nth ws q)) (b.tiles * 64)

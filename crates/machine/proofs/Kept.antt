@@ -22,7 +22,7 @@ use Rattle.sharing.specs.Sharing.{Shared, sharing_good, own_of}
 use Rattle.sharing.specs.Note.{noted, NoteFits}
 use Rattle.sharing.proofs.NoteLaws.{shared-noted}
 use Rattle.command.specs.Checks.{Check, ◌⇒◌, first, ◌then◌}
-use Rattle.command.specs.Command.{Command, does, ◌noting◌, nothing, ◌▸◌, ◌▸▸◌, memory◌or◌gives◌}
+use Rattle.command.specs.Command.{Command, does, ◌noting◌, ◌▸◌, ◌▸▸◌, memory◌or◌gives◌}
 use Rattle.command.specs.Outcome.{outcome, carried}
 use Rattle.command.specs.declared.Registers.{Registers}
 use Rattle.command.proofs.CheckFacts.{passed}

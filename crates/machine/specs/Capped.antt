@@ -4,7 +4,7 @@ use Rattle.std.specs.Prelude.{ℕ, Bool, false, ◌&&◌, List, ◌≡◌, eqb, 
 use Rattle.board.specs.declared.Board.{Board}
 use Rattle.endpoint.specs.Kinds.{is_send, send_of}
 use Rattle.endpoint.specs.declared.Endpoint.{Endpoint}
-use Rattle.table.specs.Table.{Table, view}
+use Rattle.table.specs.Table.{view}
 use Rattle.command.specs.Command.{Command}
 use Rattle.command.specs.Narrow.{Narrow}
 use Rattle.command.specs.Outcome.{carried}

@@ -1,6 +1,7 @@
 // The machine: one command of a tile carried out, an endpoint configured or invalidated, and a tile's privileged side. The public
 // functions check everything themselves and ask nothing of their caller; `step` is what runs on a checked machine.
 #![tactic(auto)]
+
 ghost use Rattle.std.specs.Prelude.{◌≡◌, List, ℕ, length};
 ghost use Rattle.board.specs.Board.{bytes_of};
 ghost use Rattle.table.specs.Table.{view};

@@ -1,6 +1,7 @@
 // The C interface (`include/tcu.h`). Each function asks nothing of its caller, and promises what the function behind it does, with
 // document 01's number for the answer (`specs/Interface.antt`).
 #![tactic(auto)]
+
 ghost use Rattle.std.specs.Prelude.{◌≡◌};
 ghost use Rattle.board.specs.Lent.{board_of};
 ghost use Rattle.command.specs.Outcome.{carried};

@@ -1,10 +1,7 @@
 -- `lists::copy` meets its contract: the numbers passed are those of the array. Assumes nothing.
 use Prim.Native.Nat.{ℕ, ◌≤◌, ◌<◌, ◌-◌}
 use mathlib.Core.Path.{◌≡◌}
-use native.Mathlib.Omega.{arith}
-use lib.ListN.{length, get_or, length-set}
-use lib.Seq.{ext_get_or}
-use Rattle.lists.proofs.ListLaws.{stored-below}
+use lib.ListN.{length, get_or}
 use Rattle.lists.proofs.copy.Given as goal
 
 abbrev pub invariant-loop-i : goal.invariant-loop-i

@@ -1,6 +1,4 @@
 -- `lists::pack` meets its contract: a list is packed where it is the list of what was read from it. Assumes nothing.
-use borrow.Author.Rules.{rules}
-use borrow.Author.Tests.{not-true, not-false}
 use mathlib.Core.Path.{refl, sym, ◌∙◌}
 use Rattle.numbers.proofs.ChoiceLaws.{chosen, declined}
 use Rattle.lists.specs.Fields.{pack_named, pack_list}

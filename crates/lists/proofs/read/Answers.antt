@@ -1,5 +1,4 @@
 -- `lists::read` meets its contract: each arm reads the fields of its kind. Assumes nothing.
-use borrow.Author.Rules.{rules}
 use borrow.Author.Tests.{ne_eqb}
 use mathlib.Core.Path.{refl, ap}
 use Rattle.numbers.specs.Choice.{◌gives◌else◌}

@@ -1,5 +1,4 @@
 -- `machine::dispatch` meets its contract: each opcode is its own command. Assumes nothing.
-use borrow.Author.Rules.{rules}
 use Rattle.command.proofs.CarryLaws.{carry}
 use Rattle.command.specs.Outcome.{carried}
 use Rattle.machine.proofs.HostLaws.{is-idle, is-send, is-reply, is_read, is-write, is-fetch, is-ack, is-other}

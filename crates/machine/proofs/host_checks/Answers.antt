@@ -1,5 +1,4 @@
 -- `machine::host_checks` meets its contract. Assumes nothing.
-use borrow.Author.Rules.{rules}
 use Rattle.command.proofs.CheckLaws.{checks}
 use Rattle.machine.specs.Machine.{host_checks}
 use Rattle.machine.proofs.HostLaws.{flag-right}

@@ -1,6 +1,4 @@
 -- `machine::machine_right` meets its contract. Assumes nothing.
-use borrow.Author.Rules.{rules}
-use borrow.Author.Tests.{not-true, not-false}
 use mathlib.Core.Path.{sym, ◌∙◌}
 use Rattle.board.proofs.BoardLaws.{right, bounds}
 use Rattle.machine.proofs.HostLaws.{right-not, right-nor, right_so}

@@ -1,5 +1,4 @@
 -- `machine::privileged` meets its contract. Assumes nothing.
-use borrow.Author.Rules.{rules}
 use mathlib.Core.List.{[]}
 use mathlib.Core.Path.{◌∙◌}
 use Rattle.command.proofs.CheckLaws.{tests}

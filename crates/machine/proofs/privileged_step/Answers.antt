@@ -1,5 +1,4 @@
 -- `machine::privileged_step` meets its contract. Assumes nothing.
-use borrow.Author.Rules.{rules}
 use Rattle.command.proofs.CheckLaws.{tests}
 use Rattle.command.proofs.CarryLaws.{carry}
 use Rattle.command.specs.Outcome.{carried}

@@ -1,5 +1,4 @@
 -- `machine::respond` meets its contract. Assumes nothing.
-use borrow.Author.Rules.{rules}
 use Rattle.command.proofs.CheckLaws.{tests}
 use Rattle.command.proofs.CarryLaws.{carry}
 use Rattle.board.proofs.BoardLaws.{bounds}

@@ -1,5 +1,4 @@
 -- `machine::step` meets its contract. Assumes nothing.
-use borrow.Author.Rules.{rules}
 use Rattle.board.proofs.BoardLaws.{bounds}
 use Rattle.sharing.proofs.NoteLaws.{inside}
 use Rattle.machine.proofs.LeftLaws.{leaves-noted, note-of, own-as}

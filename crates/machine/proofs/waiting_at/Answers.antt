@@ -1,5 +1,4 @@
 -- `machine::waiting_at` meets its contract. Assumes nothing.
-use borrow.Author.Rules.{rules}
 use Rattle.board.proofs.BoardLaws.{bounds}
 use Rattle.machine.specs.Machine.{waits_of}
 use Rattle.machine.proofs.HostLaws.{lent}

@@ -1,5 +1,4 @@
 -- `tcu::tcu_command` meets its contract, by that of `carry_out`. Assumes nothing.
-use borrow.Author.Rules.{rules}
 use Rattle.tcu.proofs.InterfaceLaws.{in-c}
 use Rattle.tcu.proofs.tcu_command.Goals as goal
 

@@ -1,5 +1,4 @@
 -- `tcu::tcu_configure` meets its contract, by that of `configure`. Assumes nothing.
-use borrow.Author.Rules.{rules}
 use Rattle.tcu.proofs.InterfaceLaws.{in-c-quiet}
 use Rattle.tcu.proofs.tcu_configure.Goals as goal
 

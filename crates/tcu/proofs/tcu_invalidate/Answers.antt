@@ -1,5 +1,4 @@
 -- `tcu::tcu_invalidate` meets its contract, by that of `invalidate`. Assumes nothing.
-use borrow.Author.Rules.{rules}
 use Rattle.tcu.proofs.InterfaceLaws.{in-c-quiet}
 use Rattle.tcu.proofs.tcu_invalidate.Goals as goal
 

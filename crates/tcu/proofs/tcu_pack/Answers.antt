@@ -1,5 +1,4 @@
 -- `tcu::tcu_pack` meets its contract, by that of `lists::pack`. Assumes nothing.
-use borrow.Author.Rules.{rules}
 use borrow.Author.Tests.{eq-eqb, ne_eqb}
 use Rattle.numbers.proofs.ChoiceLaws.{chosen, declined}
 use Rattle.tcu.specs.Interface.{words_in_c, pack_in_c}

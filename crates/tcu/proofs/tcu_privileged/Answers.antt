@@ -1,5 +1,4 @@
 -- `tcu::tcu_privileged` meets its contract, by that of `privileged`. Assumes nothing.
-use borrow.Author.Rules.{rules}
 use Rattle.tcu.proofs.InterfaceLaws.{in-c}
 use Rattle.tcu.proofs.tcu_privileged.Goals as goal
 

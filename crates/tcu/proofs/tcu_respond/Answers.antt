@@ -1,5 +1,4 @@
 -- `tcu::tcu_respond` meets its contract, by that of `respond`. Assumes nothing.
-use borrow.Author.Rules.{rules}
 use Rattle.tcu.proofs.InterfaceLaws.{in-c-response}
 use Rattle.tcu.proofs.tcu_respond.Goals as goal
 

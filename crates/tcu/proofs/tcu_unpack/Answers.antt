@@ -1,5 +1,4 @@
 -- `tcu::tcu_unpack` meets its contract, by that of `unpack`. Assumes nothing.
-use borrow.Author.Rules.{rules}
 use borrow.Author.Tests.{eq-eqb, ne_eqb}
 use Rattle.numbers.proofs.ChoiceLaws.{chosen, declined}
 use Rattle.tcu.specs.Interface.{fields_in_c, unpack_in_c}

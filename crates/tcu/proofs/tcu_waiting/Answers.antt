@@ -1,5 +1,4 @@
 -- `tcu::tcu_waiting` meets its contract, by that of `waiting_at`. Assumes nothing.
-use borrow.Author.Rules.{rules}
 use borrow.Author.Tests.{eq-eqb, ne_eqb}
 use Rattle.numbers.proofs.ChoiceLaws.{chosen, declined}
 use Rattle.tcu.specs.Interface.{waits_in_c, waiting_in_c}

@@ -1,5 +1,4 @@
 -- `wiring::apart_at` meets its contract. Assumes nothing.
-use borrow.Author.Rules.{rules}
 use borrow.Author.Tests.{eq-eqb, ne_eqb}
 use mathlib.Core.Path.{refl, sym, ◌∙◌, ap}
 use Rattle.numbers.proofs.ChoiceLaws.{chosen, declined}

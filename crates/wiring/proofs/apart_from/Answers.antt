@@ -1,5 +1,4 @@
 -- `wiring::apart_from` meets its contract: in each arm the endpoint is known. Assumes nothing.
-use borrow.Author.Rules.{rules}
 use Rattle.wiring.specs.Wiring.{apart_from}
 use Rattle.wiring.proofs.apart_from.Goals as goal
 

@@ -1,6 +1,4 @@
 -- `wiring::check_wiring` meets its contract. Assumes nothing.
-use borrow.Author.Rules.{rules}
-use borrow.Author.Tests.{not-true, not-false}
 use mathlib.Core.Path.{refl, sym, ◌∙◌}
 use Rattle.numbers.proofs.ChoiceLaws.{chosen, declined}
 use Rattle.wiring.specs.Wiring.{wiring_of}

@@ -1,5 +1,4 @@
 -- `wiring::endpoint_nth` meets its contract. Assumes nothing.
-use borrow.Author.Rules.{rules}
 use mathlib.Core.Path.{◌∙◌, ap}
 use Rattle.endpoint.specs.Endpoint.{fields_of}
 use Rattle.table.specs.Table.{view}

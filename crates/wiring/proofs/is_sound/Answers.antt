@@ -1,14 +1,8 @@
 -- `wiring::is_sound` meets its contract: each endpoint passed is sound. Assumes nothing.
-use borrow.Author.Rules.{rules}
-use borrow.Author.Count.{below_more}
-use borrow.Author.Tests.{not-true, not-false}
 use native.Mathlib.Omega.{arith}
-use Prim.Native.Nat.{ℕ, ◌-◌, ◌≤◌, ◌<◌}
-use mathlib.Core.Path.{◌≡◌, sym, ◌∙◌}
-use mathlib.Core.Bool.{true}
+use mathlib.Core.Path.{sym, ◌∙◌}
 use Rattle.bits.proofs.SearchLaws.{all_true, all-false}
-use Rattle.table.specs.Table.{view}
-use Rattle.wiring.specs.Wiring.{sound_at, sound}
+use Rattle.wiring.specs.Wiring.{sound}
 use Rattle.wiring.proofs.is_sound.Goals as goal
 
 pub returns-then-not-sound_at : goal.returns-then-not-sound_at

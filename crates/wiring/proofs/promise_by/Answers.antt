@@ -1,5 +1,4 @@
 -- `wiring::promise_by` meets its contract: in each arm the endpoint is known. Assumes nothing.
-use borrow.Author.Rules.{rules}
 use Rattle.wiring.specs.Credits.{share}
 use Rattle.wiring.proofs.promise_by.Goals as goal
 

@@ -1,8 +1,7 @@
 -- `wiring::promised_to` meets its contract: the total is what the endpoints passed promise. Assumes nothing.
-use borrow.Author.Rules.{rules}
 use native.Mathlib.Omega.{arith}
 use native.Mathlib.Numerals.{add-one}
-use Prim.Native.Nat.{ℕ, ◌+◌, ◌*◌, ◌-◌, ◌≤◌}
+use Prim.Native.Nat.{ℕ, ◌+◌}
 use mathlib.Core.Path.{◌≡◌, refl, ◌∙◌, ap}
 use Rattle.table.specs.Table.{Table, view}
 use Rattle.wiring.specs.Sums.{sum}

@@ -1,11 +1,8 @@
 -- `wiring::promised_to` meets its contract: the total is what the endpoints passed promise. Assumes nothing.
-use native.Mathlib.Omega.{arith}
-use native.Mathlib.Numerals.{add-one}
-use Prim.Native.Nat.{ℕ, ◌+◌, ◌*◌, ◌-◌, ◌≤◌}
-use mathlib.Core.Path.{◌≡◌, refl, ◌∙◌, ap}
-use Rattle.table.specs.Table.{Table, view}
-use Rattle.wiring.specs.Sums.{sum}
-use Rattle.wiring.specs.Credits.{promise, promised}
+use Prim.Native.Nat.{◌*◌, ◌-◌, ◌≤◌}
+use mathlib.Core.Path.{◌≡◌}
+use Rattle.table.specs.Table.{view}
+use Rattle.wiring.specs.Credits.{promised}
 use Rattle.wiring.proofs.promised_to.Given as goal
 
 abbrev pub invariant-loop-q : goal.invariant-loop-q

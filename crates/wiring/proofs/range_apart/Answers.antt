@@ -1,14 +1,7 @@
 -- `wiring::range_apart` meets its contract: each endpoint passed is apart. Assumes nothing.
-use borrow.Author.Rules.{rules}
-use borrow.Author.Count.{below_more}
-use borrow.Author.Tests.{not-true, not-false}
 use native.Mathlib.Omega.{arith}
-use Prim.Native.Nat.{ℕ, ◌-◌, ◌≤◌, ◌<◌}
-use mathlib.Core.Path.{◌≡◌, sym, ◌∙◌}
-use mathlib.Core.Bool.{true}
+use mathlib.Core.Path.{sym, ◌∙◌}
 use Rattle.bits.proofs.SearchLaws.{all_true, all-false}
-use Rattle.table.specs.Table.{view}
-use Rattle.wiring.specs.Wiring.{apart_at}
 use Rattle.wiring.proofs.range_apart.Goals as goal
 
 pub returns-then-not-apart_at : goal.returns-then-not-apart_at

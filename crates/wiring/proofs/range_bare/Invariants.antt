@@ -1,11 +1,7 @@
 -- `wiring::range_bare` meets its contract: each endpoint passed is INVALID. Assumes nothing.
-use borrow.Author.Count.{below_more}
-use borrow.Author.Tests.{not-true, not-false}
-use native.Mathlib.Omega.{arith}
 use Prim.Native.Nat.{ℕ, ◌-◌, ◌≤◌, ◌<◌}
-use mathlib.Core.Path.{◌≡◌, sym, ◌∙◌}
+use mathlib.Core.Path.{◌≡◌}
 use mathlib.Core.Bool.{true}
-use Rattle.bits.proofs.SearchLaws.{all_true, all-false}
 use Rattle.table.specs.Table.{view}
 use Rattle.wiring.specs.Wiring.{bare_at}
 use Rattle.wiring.proofs.range_bare.Given as goal

@@ -1,5 +1,4 @@
 -- `wiring::range_sound` meets its contract. Assumes nothing.
-use borrow.Author.Rules.{rules}
 use borrow.Author.Tests.{eq-eqb, ne_eqb, le-leb, lt-leb}
 use Prim.Native.Nat.{◌<◌, ◌≤◌}
 use mathlib.Core.Path.{refl}

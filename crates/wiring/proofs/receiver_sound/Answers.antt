@@ -1,5 +1,4 @@
 -- `wiring::receiver_sound` meets its contract. Assumes nothing.
-use borrow.Author.Rules.{rules}
 use borrow.Author.Tests.{eq-eqb, ne_eqb}
 use Rattle.wiring.specs.Wiring.{receiver_sound}
 use Rattle.wiring.proofs.Flags.{stop-and, pass-and}

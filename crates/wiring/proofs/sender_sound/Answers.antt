@@ -1,11 +1,6 @@
 -- `wiring::sender_sound` meets its contract. Assumes nothing.
 -- the tile is there
-use borrow.Author.Rules.{rules}
-use borrow.Author.Tests.{ltb-true, not-false}
-use lib.Dec.{eqb, ltb}
-use mathlib.Core.Path.{sym, ◌∙◌, ap}
-use native.Mathlib.Omega.{arith}
-use Rattle.numbers.proofs.TestLaws.{split-and}
+use mathlib.Core.Path.{◌∙◌, ap}
 use Rattle.endpoint.specs.Kinds.{is_receive}
 use Rattle.wiring.specs.Wiring.{sender_sound}
 use Rattle.wiring.proofs.Flags.{stop-and, pass-and}

@@ -1,5 +1,4 @@
 -- `wiring::sound_at` meets its contract: in each arm the endpoint is known. Assumes nothing.
-use borrow.Author.Rules.{rules}
 use mathlib.Core.Path.{sym, ◌∙◌}
 use Rattle.wiring.specs.Wiring.{endpoint_sound}
 use Rattle.wiring.proofs.Low.{view-low}
