@@ -1,49 +1,47 @@
 // Rehearses a script (docs/SCRIPT.md): reads it, checks the whole of it, and runs it on the machine only where it has no
 // mistake. The arguments are an option, --sheet or --drawing, and a file; with no file, or -, it reads standard input.
 #![tactic(auto)]
+
 use checking::Checked;
 use input::Input;
-use libc::STDOUT_FILENO;
 use running::Mode;
+use std::env::FillError;
+use std::io::{self, BufWriter, Read, Write};
+use std::rt::Runtime;
 
-fn say(text: &[u8]) {
-    io::write_all(STDOUT_FILENO, text);
-}
-
-// Runs a checked script, or says that nothing was run. What the machine is lent is cut to the board's sizes here, once; the
-// arrays of `start` are as long as the largest board asks, so none of the three tests of their lengths ever holds.
-fn second(
+// Runs a checked script, or says that nothing was run. What the machine is lent is cut to the board's sizes here, once; what
+// `start` makes is as long as the largest board asks, so none of the three tests of the lengths ever holds.
+fn second<W: Write>(
     s: &[u8],
     mode: Mode,
     c: Checked,
-    buf: &mut [u8],
+    out: &mut W,
     words: &mut [u64],
     sharing: &mut [u64],
     mem: &mut [u8],
     values: &mut [u64; 40],
     given: &mut [bool; 29],
-) -> usize {
+) -> io::Result<()> {
     if c.mistakes > 0 {
-        return mistakes::count(buf, c.fill, c.mistakes);
+        return mistakes::count(out, c.mistakes);
     }
     let b = c.board();
     let tiles = (b.tiles % 9) as usize;
     let bytes = contents::bytes_of(b);
     if words.len() < tiles * 192 {
-        return c.fill;
+        return Ok(());
     }
     if sharing.len() < tiles * 67 {
-        return c.fill;
+        return Ok(());
     }
     if mem.len() < bytes {
-        return c.fill;
+        return Ok(());
     }
     running::run(
         s,
         mode,
-        c.fill,
         b,
-        buf,
+        out,
         &mut words[0..tiles * 192],
         &mut sharing[0..tiles * 67],
         &mut mem[0..bytes],
@@ -53,64 +51,70 @@ fn second(
 }
 
 // The rehearsal of a script of which `size` bytes were read.
-fn rehearse(
+fn rehearse<W: Write>(
     all: &[u8],
     size: usize,
     mode: Mode,
-    buf: &mut [u8],
+    out: &mut W,
     words: &mut [u64],
     sharing: &mut [u64],
     mem: &mut [u8],
     values: &mut [u64; 40],
     given: &mut [bool; 29],
-) {
+) -> io::Result<()> {
     if all.len() < size {
-        return;
+        return Ok(());
     }
     let s = &all[0..size];
-    let c = checking::check(s, buf, values, given);
-    let fill = second(s, mode, c, buf, words, sharing, mem, values, given);
-    output::flush(buf, fill);
+    let c = checking::check(s, out, values, given)?;
+    second(s, mode, c, out, words, sharing, mem, values, given)
 }
 
-fn go(
-    fd: i32,
+fn go<R: Read, W: Write>(
+    from: &mut R,
     mode: Mode,
-    all: &mut [u8; 1048576],
-    buf: &mut [u8; 65536],
+    all: &mut [u8],
+    out: &mut W,
     words: &mut [u64; 1536],
     sharing: &mut [u64; 536],
-    mem: &mut [u8; 524288],
+    mem: &mut [u8],
     values: &mut [u64; 40],
     given: &mut [bool; 29],
-) {
-    match input::read_all(fd, all) {
-        Input::Got(n) => rehearse(all, n, mode, buf, words, sharing, mem, values, given),
-        Input::TooLong => say(b"the script is longer than 1048576 bytes; nothing was run\n"),
-        Input::Failed => say(b"the script cannot be read; nothing was run\n"),
+) -> io::Result<()> {
+    match input::read_all(from, all) {
+        Input::Got(n) => rehearse(all, n, mode, out, words, sharing, mem, values, given),
+        Input::TooLong => output::text(
+            out,
+            b"the script is longer than 1048576 bytes; nothing was run\n",
+        ),
+        Input::Failed => output::text(out, b"the script cannot be read; nothing was run\n"),
     }
 }
 
 // Makes all that the rehearsal works on, and lends it.
-fn start(fd: i32, mode: Mode) {
-    let mut all = [0u8; 1048576];
-    let mut buf = [0u8; 65536];
+fn start<T: Runtime, R: Read, W: Write>(
+    rt: &T,
+    from: &mut R,
+    mode: Mode,
+    out: &mut W,
+) -> io::Result<()> {
+    let mut all = vec![in rt.alloc(); 0u8; 1048576]?;
     let mut words = [0u64; 1536];
     let mut sharing = [0u64; 536];
-    let mut mem = [0u8; 524288];
+    let mut mem = vec![in rt.alloc(); 0u8; 524288]?;
     let mut values = [0u64; 40];
     let mut given = [false; 29];
     go(
-        fd,
+        from,
         mode,
         &mut all,
-        &mut buf,
+        out,
         &mut words,
         &mut sharing,
         &mut mem,
         &mut values,
         &mut given,
-    );
+    )
 }
 
 fn same(a: &[u8], b: &[u8]) -> bool {
@@ -138,52 +142,64 @@ fn mode_of(word: &[u8]) -> Mode {
 }
 
 // The option that the first argument is; a missing argument is none.
-fn option() -> Mode {
-    let mut word = io::buffer();
-    let n = os::arg(1, &mut word);
-    mode_of(&word[..n])
+fn option<T: Runtime>(rt: &T) -> Mode {
+    let mut word = [0u8; 4096];
+    match rt.arg(1, &mut word) {
+        Ok(n) => mode_of(&word[..n]),
+        Err(_) => Mode::Whole,
+    }
 }
 
-// Rehearses the file of this name.
-fn named(path: &[u8], mode: Mode) {
+fn cannot_open<W: Write>(path: &[u8], out: &mut W) -> io::Result<()> {
+    output::text(out, path)?;
+    output::text(out, b": cannot be opened; nothing was run\n")
+}
+
+// Rehearses the file of this name. Files are opened by names in UTF-8; one of another name cannot be.
+fn named<T: Runtime, W: Write>(rt: &T, path: &[u8], mode: Mode, out: &mut W) -> io::Result<()> {
     if same(path, b"-") {
-        start(0, mode);
-        return;
+        return start(rt, &mut rt.reader(), mode, out);
     }
-    let fd = os::open_read(path);
-    if fd < 0 {
-        say(path);
-        say(b": cannot be opened; nothing was run\n");
-        return;
+    let Ok(name) = str::from_utf8(path) else {
+        return cannot_open(path, out);
+    };
+    match std::fs::open(rt, name) {
+        Ok(file) => {
+            let mut file = file;
+            start(rt, &mut file, mode, out)
+        }
+        Err(_) => cannot_open(path, out),
     }
-    start(fd, mode);
-    libc::close(fd);
+}
+
+// Whether argument `i` is there.
+fn is_given<T: Runtime>(rt: &T, i: usize) -> bool {
+    !matches!(rt.arg(i, &mut [0u8; 1]), Err(FillError::NotPresent))
 }
 
 // Rehearses the file that argument `i` names.
-fn rest(i: usize, mode: Mode) {
-    let count = os::arg_count();
-    if count <= i {
-        start(0, mode);
-        return;
+fn rest<T: Runtime, W: Write>(rt: &T, i: usize, mode: Mode, out: &mut W) -> io::Result<()> {
+    let mut path = [0u8; 4096];
+    match rt.arg(i, &mut path) {
+        Err(FillError::NotPresent) => start(rt, &mut rt.reader(), mode, out),
+        Err(FillError::TooLong) => {
+            output::text(out, b"the file's name is too long; nothing was run\n")
+        }
+        Ok(n) => {
+            if is_given(rt, i.saturating_add(1)) {
+                return output::text(out, b"more than one file was named; nothing was run\n");
+            }
+            named(rt, &path[..n], mode, out)
+        }
     }
-    let mut path = io::buffer();
-    let n = os::arg(i, &mut path);
-    if os::errno() != 0 {
-        say(b"the file's name is too long; nothing was run\n");
-        return;
-    }
-    if count - i > 1 {
-        say(b"more than one file was named; nothing was run\n");
-        return;
-    }
-    named(&path[..n], mode);
 }
 
-fn main() {
-    match option() {
-        Mode::Whole => rest(1, Mode::Whole),
-        Mode::Sheet => rest(2, Mode::Sheet),
-        Mode::Drawing => rest(2, Mode::Drawing),
+fn main(rt: HostRuntime) -> io::Result<()> {
+    let mut out = BufWriter::with_capacity(rt.alloc(), 65536, io::writer(&rt))?;
+    match option(&rt) {
+        Mode::Whole => rest(&rt, 1, Mode::Whole, &mut out)?,
+        Mode::Sheet => rest(&rt, 2, Mode::Sheet, &mut out)?,
+        Mode::Drawing => rest(&rt, 2, Mode::Drawing, &mut out)?,
     }
+    output::flush(&mut out)
 }
