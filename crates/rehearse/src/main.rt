@@ -92,26 +92,21 @@ fn go<R: Read, W: Write>(
 }
 
 // Makes all that the rehearsal works on, and lends it.
-fn start<T: Runtime, R: Read, W: Write>(
-    rt: &T,
-    from: &mut R,
-    mode: Mode,
-    out: &mut W,
-) -> io::Result<()> {
-    let mut all = vec![in rt.alloc(); 0u8; 1048576]?;
+fn start<R: Read, W: Write>(from: &mut R, mode: Mode, out: &mut W) -> io::Result<()> {
+    let mut all = [0u8; 1048576];
     let mut words = [0u64; 1536];
     let mut sharing = [0u64; 536];
-    let mut mem = vec![in rt.alloc(); 0u8; 524288]?;
+    let mut mem = [0u8; 524288];
     let mut values = [0u64; 40];
     let mut given = [false; 29];
     go(
         from,
         mode,
-        &mut all,
+        all.as_mut_slice(),
         out,
         &mut words,
         &mut sharing,
-        &mut mem,
+        mem.as_mut_slice(),
         &mut values,
         &mut given,
     )
@@ -158,7 +153,7 @@ fn cannot_open<W: Write>(path: &[u8], out: &mut W) -> io::Result<()> {
 // Rehearses the file of this name. Files are opened by names in UTF-8; one of another name cannot be.
 fn named<T: Runtime, W: Write>(rt: &T, path: &[u8], mode: Mode, out: &mut W) -> io::Result<()> {
     if same(path, b"-") {
-        return start(rt, &mut rt.reader(), mode, out);
+        return start(&mut rt.reader(), mode, out);
     }
     let Ok(name) = str::from_utf8(path) else {
         return cannot_open(path, out);
@@ -166,7 +161,7 @@ fn named<T: Runtime, W: Write>(rt: &T, path: &[u8], mode: Mode, out: &mut W) -> 
     match std::fs::open(rt, name) {
         Ok(file) => {
             let mut file = file;
-            start(rt, &mut file, mode, out)
+            start(&mut file, mode, out)
         }
         Err(_) => cannot_open(path, out),
     }
@@ -181,7 +176,7 @@ fn is_given<T: Runtime>(rt: &T, i: usize) -> bool {
 fn rest<T: Runtime, W: Write>(rt: &T, i: usize, mode: Mode, out: &mut W) -> io::Result<()> {
     let mut path = [0u8; 4096];
     match rt.arg(i, &mut path) {
-        Err(FillError::NotPresent) => start(rt, &mut rt.reader(), mode, out),
+        Err(FillError::NotPresent) => start(&mut rt.reader(), mode, out),
         Err(FillError::TooLong) => {
             output::text(out, b"the file's name is too long; nothing was run\n")
         }
