@@ -9,8 +9,8 @@ use std::env::FillError;
 use std::io::{self, BufWriter, Read, Write};
 use std::rt::Runtime;
 
-// Runs a checked script, or says that nothing was run. What the machine is lent is cut to the board's sizes here, once; what
-// `start` makes is as long as the largest board asks, so none of the three tests of the lengths ever holds.
+// Runs a checked script, or says that nothing was run. What the machine is lent is cut to the board's sizes here, once; the
+// arrays of `start` are as long as the largest board asks, so none of the three tests of their lengths ever holds.
 fn second<W: Write>(
     s: &[u8],
     mode: Mode,
