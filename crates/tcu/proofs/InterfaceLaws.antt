@@ -3,6 +3,8 @@ use Prim.Native.Nat.{ℕ}
 use mathlib.Core.List.{List, [], ◌∷◌}
 use mathlib.Core.Path.{◌≡◌, refl, ap, ◌∙◌}
 use native.Mathlib.Omega.{arith}
+use borrow.Author.Tests.{eq-eqb, ne_eqb}
+use Rattle.numbers.proofs.ChoiceLaws.{chosen, declined}
 use lib.ListN.{length}
 use Rattle.answers.specs.Answers.{code_of, number_of}
 use Rattle.answers.specs.declared.Error.{Error}
@@ -73,3 +75,6 @@ put_three (x ∷ []) w h = absurd (omega arith)
 put_three (x ∷ y ∷ []) w h = absurd (omega arith)
 put_three (x ∷ y ∷ z ∷ []) w h = refl
 put_three (x ∷ y ∷ z ∷ u ∷ ws) w h = absurd (omega arith)
+
+-- what proves a call that packs
+pub ruleset packing = (eq-eqb, ne_eqb, chosen, declined, put_three)

@@ -231,6 +231,7 @@ pub extern "C" fn tcu_unpack(
 }
 
 // Turns the eleven numbers of an endpoint into three words.
+#[tactic(auto, using(crate::proofs::InterfaceLaws::packing), unfolding(crate::specs::Interface::pack_in_c, crate::specs::Interface::words_in_c))]
 #[unsafe(no_mangle)]
 pub extern "C" fn tcu_pack(memory: u64, fields: &[u64], words: &mut [u64]) -> u32
     ensures { turned result words.new ≡ pack_in_c memory fields.now words.old }
