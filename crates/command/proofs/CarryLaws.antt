@@ -22,7 +22,7 @@ use Rattle.command.specs.Checks.{Check, ◌⇒◌, first, ◌then◌, ◌fails�
 use Rattle.command.specs.Command.{Write, ◌⇐◌to◌, Put, nothing, bytes_to, Effect, Command, does, ◌noting◌, ◌▸◌, ◌▸▸◌, send◌or◌gives◌, receive◌or◌gives◌, memory◌or◌gives◌, slot◌or◌gives◌, slot◌else◌gives◌}
 use Rattle.command.specs.Outcome.{outcome, finishes, written, placed, settled}
 use Rattle.command.specs.declared.Completion.{Completion}
-use Rattle.command.proofs.CheckLaws.{stop-with, pass-group, not-is-true, not-is-false, yes-send, no-send, yes-receive, no-receive, yes-memory, no-memory}
+use Rattle.command.proofs.CheckLaws.{stop_with, pass_group, not_is_true, not_is_false, yes_send, no_send_lem, yes_receive, no_receive_lem, yes_memory, no_memory_lem}
 
 module _ {X : Type 0} (f : Error → X) (g : Effect → X) (o : X) where
   -- ---- one check
@@ -37,55 +37,55 @@ module _ {X : Type 0} (f : Error → X) (g : Effect → X) (o : X) where
   go_on false e k t h = h
 
   -- ---- a list that another function checks: r is what it answered
-  pub halt-group : (r : Answer) (e : Error) (l : List Check) (k : Command) → r ≡ first l → r ≡ Refused e → o ≡ f e → o ≡ settled f g (l ▸▸ k)
+  pub halt_group : (r : Answer) (e : Error) (l : List Check) (k : Command) → r ≡ first l → r ≡ Refused e → o ≡ f e → o ≡ settled f g (l ▸▸ k)
   unfolding settled ◌▸▸◌ ◌fails◌else◌
-  halt-group r e l k q t h = rw (← (stop-with r l k.checks e q t)) h
+  halt_group r e l k q t h = rw (← (stop_with r l k.checks e q t)) h
 
-  pub go-on-group : (r : Answer) (l : List Check) (k : Command) → r ≡ first l → r ≡ None → o ≡ settled f g k → o ≡ settled f g (l ▸▸ k)
+  pub go_on_group : (r : Answer) (l : List Check) (k : Command) → r ≡ first l → r ≡ None → o ≡ settled f g k → o ≡ settled f g (l ▸▸ k)
   unfolding settled ◌▸▸◌
-  go-on-group r l k q t h = rw (← (pass-group r (first k.checks) l k.checks q t refl)) h
+  go_on_group r l k q t h = rw (← (pass_group r (first k.checks) l k.checks q t refl)) h
 
   -- ---- the two ways of a `let Endpoint::Send(s) = .. else { .. }`, of a call's result q
-  pub takes-send : (q e : Endpoint) (s : SendFields) (n : Error) (k : SendFields → Command) → q ≡ e → q ≡ Send s → o ≡ settled f g (k s) → o ≡ settled f g (send e or n gives k)
+  pub takes_send : (q e : Endpoint) (s : SendFields) (n : Error) (k : SendFields → Command) → q ≡ e → q ≡ Send s → o ≡ settled f g (k s) → o ≡ settled f g (send e or n gives k)
   unfolding send◌or◌gives◌
-  takes-send q e s n k i p h = rw (← i, p) (go_on _ n (k s) (not-is-false _ (yes-send (Send s) s refl)) h)
+  takes_send q e s n k i p h = rw (← i, p) (go_on _ n (k s) (not_is_false _ (yes_send (Send s) s refl)) h)
 
-  pub lacks-send : (q e : Endpoint) (n : Error) (k : SendFields → Command) → q ≡ e → ((x : SendFields) → q ≡ Send x → ⊥) → o ≡ f n → o ≡ settled f g (send e or n gives k)
+  pub lacks_send : (q e : Endpoint) (n : Error) (k : SendFields → Command) → q ≡ e → ((x : SendFields) → q ≡ Send x → ⊥) → o ≡ f n → o ≡ settled f g (send e or n gives k)
   unfolding send◌or◌gives◌
-  lacks-send q e n k i t h = rw (← i) (halt _ n _ h (not-is-true _ (no-send q t)))
+  lacks_send q e n k i t h = rw (← i) (halt _ n _ h (not_is_true _ (no_send_lem q t)))
 
-  pub takes-receive : (q e : Endpoint) (r : ReceiveFields) (n : Error) (k : ReceiveFields → Command) → q ≡ e → q ≡ Receive r → o ≡ settled f g (k r) → o ≡ settled f g (receive e or n gives k)
+  pub takes_receive : (q e : Endpoint) (r : ReceiveFields) (n : Error) (k : ReceiveFields → Command) → q ≡ e → q ≡ Receive r → o ≡ settled f g (k r) → o ≡ settled f g (receive e or n gives k)
   unfolding receive◌or◌gives◌
-  takes-receive q e r n k i p h = rw (← i, p) (go_on _ n (k r) (not-is-false _ (yes-receive (Receive r) r refl)) h)
+  takes_receive q e r n k i p h = rw (← i, p) (go_on _ n (k r) (not_is_false _ (yes_receive (Receive r) r refl)) h)
 
-  pub lacks-receive : (q e : Endpoint) (n : Error) (k : ReceiveFields → Command) → q ≡ e → ((x : ReceiveFields) → q ≡ Receive x → ⊥) → o ≡ f n → o ≡ settled f g (receive e or n gives k)
+  pub lacks_receive : (q e : Endpoint) (n : Error) (k : ReceiveFields → Command) → q ≡ e → ((x : ReceiveFields) → q ≡ Receive x → ⊥) → o ≡ f n → o ≡ settled f g (receive e or n gives k)
   unfolding receive◌or◌gives◌
-  lacks-receive q e n k i t h = rw (← i) (halt _ n _ h (not-is-true _ (no-receive q t)))
+  lacks_receive q e n k i t h = rw (← i) (halt _ n _ h (not_is_true _ (no_receive_lem q t)))
 
   pub takes_memory : (q e : Endpoint) (m : MemoryFields) (n : Error) (k : MemoryFields → Command) → q ≡ e → q ≡ Memory m → o ≡ settled f g (k m) → o ≡ settled f g (memory e or n gives k)
   unfolding memory◌or◌gives◌
-  takes_memory q e m n k i p h = rw (← i, p) (go_on _ n (k m) (not-is-false _ (yes-memory (Memory m) m refl)) h)
+  takes_memory q e m n k i p h = rw (← i, p) (go_on _ n (k m) (not_is_false _ (yes_memory (Memory m) m refl)) h)
 
-  pub lacks-memory : (q e : Endpoint) (n : Error) (k : MemoryFields → Command) → q ≡ e → ((x : MemoryFields) → q ≡ Memory x → ⊥) → o ≡ f n → o ≡ settled f g (memory e or n gives k)
+  pub lacks_memory : (q e : Endpoint) (n : Error) (k : MemoryFields → Command) → q ≡ e → ((x : MemoryFields) → q ≡ Memory x → ⊥) → o ≡ f n → o ≡ settled f g (memory e or n gives k)
   unfolding memory◌or◌gives◌
-  lacks-memory q e n k i t h = rw (← i) (halt _ n _ h (not-is-true _ (no-memory q t)))
+  lacks_memory q e n k i t h = rw (← i) (halt _ n _ h (not_is_true _ (no_memory_lem q t)))
 
   -- ---- a slot that a search found, of a call's result q; and a choice that is no check
-  pub takes-slot : (q e : Found) (i d : ℕ) (n : Error) (k : ℕ → Command) → q ≡ e → q ≡ At i d → o ≡ settled f g (k i) → o ≡ settled f g (slot e or n gives k)
+  pub takes_slot : (q e : Found) (i d : ℕ) (n : Error) (k : ℕ → Command) → q ≡ e → q ≡ At i d → o ≡ settled f g (k i) → o ≡ settled f g (slot e or n gives k)
   unfolding slot◌or◌gives◌
-  takes-slot q e i d n k p r h = rw (← p, r) (go_on false n (k i) refl h)
+  takes_slot q e i d n k p r h = rw (← p, r) (go_on false n (k i) refl h)
 
-  pub lacks-slot : (q e : Found) (n : Error) (k : ℕ → Command) → q ≡ e → q ≡ Nothing → o ≡ f n → o ≡ settled f g (slot e or n gives k)
+  pub lacks_slot : (q e : Found) (n : Error) (k : ℕ → Command) → q ≡ e → q ≡ Nothing → o ≡ f n → o ≡ settled f g (slot e or n gives k)
   unfolding slot◌or◌gives◌
-  lacks-slot q e n k p r h = rw (← p, r) (halt true n _ h refl)
+  lacks_slot q e n k p r h = rw (← p, r) (halt true n _ h refl)
 
-  pub takes-found : (q e : Found) (i d : ℕ) (k : Command) (h : ℕ → Command) → q ≡ e → q ≡ At i d → o ≡ settled f g (h i) → o ≡ settled f g (slot e else k gives h)
+  pub takes_found : (q e : Found) (i d : ℕ) (k : Command) (h : ℕ → Command) → q ≡ e → q ≡ At i d → o ≡ settled f g (h i) → o ≡ settled f g (slot e else k gives h)
   unfolding slot◌else◌gives◌
-  takes-found q e i d k h p r z = rw (← p, r) z
+  takes_found q e i d k h p r z = rw (← p, r) z
 
-  pub lacks-found : (q e : Found) (k : Command) (h : ℕ → Command) → q ≡ e → q ≡ Nothing → o ≡ settled f g k → o ≡ settled f g (slot e else k gives h)
+  pub lacks_found : (q e : Found) (k : Command) (h : ℕ → Command) → q ≡ e → q ≡ Nothing → o ≡ settled f g k → o ≡ settled f g (slot e else k gives h)
   unfolding slot◌else◌gives◌
-  lacks-found q e k h p r z = rw (← p, r) z
+  lacks_found q e k h p r z = rw (← p, r) z
 
   pub takes : (b : Bool) (k h : Command) → b ≡ true → o ≡ settled f g k → o ≡ settled f g (b gives k else h)
   unfolding ◌gives◌else◌
@@ -102,9 +102,9 @@ module _ {X : Type 0} (f : Error → X) (g : Effect → X) (o : X) where
   unfolding settled does first ◌fails◌else◌
   ends l p x h = h
 
-  pub ends-noting : (l : List Write) (p : Put) (x : ℕ) (n : Note) → o ≡ g (record { writes = l; puts = p; hands = x; notes = n }) → o ≡ settled f g (does l p x noting n)
+  pub ends_noting : (l : List Write) (p : Put) (x : ℕ) (n : Note) → o ≡ g (record { writes = l; puts = p; hands = x; notes = n }) → o ≡ settled f g (does l p x noting n)
   unfolding settled does ◌noting◌ first ◌fails◌else◌
-  ends-noting l p x n h = h
+  ends_noting l p x n h = h
 
 -- ---- what was written and put, one after another
 pub same_outcome : (r s : Completion) (us vs bs cs : List ℕ) → r ≡ s → us ≡ vs → bs ≡ cs → outcome r us bs ≡ outcome s vs cs
@@ -133,20 +133,20 @@ unfolding written
 wrote_one us vs ws (b ⇐ e to q) l s h = rw (← s) h
 
 -- a list that another function writes
-pub wrote-group : (us vs ws : List ℕ) (l k : List Write) → vs ≡ written ws l → us ≡ written vs k → us ≡ written ws (l then k)
+pub wrote_group : (us vs ws : List ℕ) (l k : List Write) → vs ≡ written ws l → us ≡ written vs k → us ≡ written ws (l then k)
 unfolding written ◌then◌
-wrote-group us vs ws [] k e h = rw (← e) h
-wrote-group us vs ws ((b ⇐ d to q) ∷ l) k e h = wrote-group us vs (cond b (stored ws q d) ws) l k e h
+wrote_group us vs ws [] k e h = rw (← e) h
+wrote_group us vs ws ((b ⇐ d to q) ∷ l) k e h = wrote_group us vs (cond b (stored ws q d) ws) l k e h
 
 pub bare : (bs : List ℕ) → bs ≡ placed bs nothing
 unfolding placed
 bare bs = refl
 
-pub put-there : (cs bs : List ℕ) (p : ℕ) (l : List ℕ) → cs ≡ put bs p l → cs ≡ placed bs (bytes_to p l)
+pub put_there : (cs bs : List ℕ) (p : ℕ) (l : List ℕ) → cs ≡ put bs p l → cs ≡ placed bs (bytes_to p l)
 unfolding placed
-put-there cs bs p l h = h
+put_there cs bs p l h = h
 
-pub ruleset carry = (halt, go_on, halt-group, go-on-group, takes-send, lacks-send, takes-receive, lacks-receive, takes_memory, lacks-memory, takes-slot, lacks-slot, takes-found, lacks-found, takes, leaves, ends, ends-noting, same_outcome, handed, kept, wrote, wrote-group, spared, bare, put-there)
+pub ruleset carry = (halt, go_on, halt_group, go_on_group, takes_send, lacks_send, takes_receive, lacks_receive, takes_memory, lacks_memory, takes_slot, lacks_slot, takes_found, lacks_found, takes, leaves, ends, ends_noting, same_outcome, handed, kept, wrote, wrote_group, spared, bare, put_there)
 
 -- where each write is a function's: without `wrote`, which would try to do the writes by itself
 pub ruleset one_by_one = (wrote_one, kept)

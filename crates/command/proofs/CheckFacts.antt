@@ -32,10 +32,10 @@ abbrev pub same : Error → Error → Bool
 same d e = eqb (code_of d) (code_of e)
 
 -- no check up to k, and k itself, gives e
-abbrev pub other-than : Error → List Check → ℕ → Bool
-other-than e [] k = true
-other-than e ((b ⇒ d) ∷ l) zero = not (same d e)
-other-than e ((b ⇒ d) ∷ l) (suc k) = cond (same d e) false (other-than e l k)
+abbrev pub other_than : Error → List Check → ℕ → Bool
+other_than e [] k = true
+other_than e ((b ⇒ d) ∷ l) zero = not (same d e)
+other_than e ((b ⇒ d) ∷ l) (suc k) = cond (same d e) false (other_than e l k)
 
 -- none at all does; none but k does
 abbrev pub never : Error → List Check → Bool
@@ -64,7 +64,7 @@ skip true d e r k t h = absurd (go (same d e) (rw (unrefused d e h) (eqb_refl (c
     go false u t = elim u [ ]
 
 -- where the refusal is e, a check before any that gives e has passed
-pub before : (e : Error) (l : List Check) → first l ≡ Refused e → (k : ℕ) → T (other-than e l k) → nth l k ≡ false
+pub before : (e : Error) (l : List Check) → first l ≡ Refused e → (k : ℕ) → T (other_than e l k) → nth l k ≡ false
 unfolding first
 before e [] h k t = refl
 before e ((b ⇒ d) ∷ l) h zero t = (skip b d e (first l) true (go (same d e) t) h).0
@@ -72,18 +72,18 @@ before e ((b ⇒ d) ∷ l) h zero t = (skip b d e (first l) true (go (same d e) 
     go : (x : Bool) → T (not x) → T (cond x false true)
     go true u = elim u [ ]
     go false u = tt
-before e ((b ⇒ d) ∷ l) h (suc k) t = let s = skip b d e (first l) (other-than e l k) t h in before e l s.1 k s.2
+before e ((b ⇒ d) ∷ l) h (suc k) t = let s = skip b d e (first l) (other_than e l k) t h in before e l s.1 k s.2
 
-never-is : (e : Error) (l : List Check) → T (never e l) → first l ≡ Refused e → ⊥
+never_is : (e : Error) (l : List Check) → T (never e l) → first l ≡ Refused e → ⊥
 unfolding first
-never-is e [] t h = let z : ◌≡◌ {A = ℕ} 0 1 = cc in omega arith
-never-is e ((b ⇒ d) ∷ l) t h = let s = skip b d e (first l) (never e l) t h in never-is e l s.2 s.1
+never_is e [] t h = let z : ◌≡◌ {A = ℕ} 0 1 = cc in omega arith
+never_is e ((b ⇒ d) ∷ l) t h = let s = skip b d e (first l) (never e l) t h in never_is e l s.2 s.1
 
 -- and the only check that gives e has failed
 pub stopped : (e : Error) (l : List Check) → first l ≡ Refused e → (k : ℕ) → T (only e l k) → nth l k ≡ true
 unfolding first
-stopped e [] h k t = absurd (never-is e [] tt h)
-stopped e ((false ⇒ d) ∷ l) h zero t = absurd (never-is e l t h)
+stopped e [] h k t = absurd (never_is e [] tt h)
+stopped e ((false ⇒ d) ∷ l) h zero t = absurd (never_is e l t h)
 stopped e ((true ⇒ d) ∷ l) h zero t = refl
 stopped e ((b ⇒ d) ∷ l) h (suc k) t = let s = skip b d e (first l) (only e l k) t h in stopped e l s.1 k s.2
 
@@ -93,9 +93,9 @@ only_two e [] k = true
 only_two e ((b ⇒ d) ∷ l) zero = only e l zero
 only_two e ((b ⇒ d) ∷ l) (suc k) = cond (same d e) false (only_two e l k)
 
-pub stopped-at-two : (e : Error) (l : List Check) → first l ≡ Refused e → (k : ℕ) → T (only_two e l k) → (nth l k ≡ true) ⊎ (nth l (suc k) ≡ true)
+pub stopped_at_two : (e : Error) (l : List Check) → first l ≡ Refused e → (k : ℕ) → T (only_two e l k) → (nth l k ≡ true) ⊎ (nth l (suc k) ≡ true)
 unfolding first
-stopped-at-two e [] h k t = absurd (never-is e [] tt h)
-stopped-at-two e ((false ⇒ d) ∷ l) h zero t = inr (stopped e l h zero t)
-stopped-at-two e ((true ⇒ d) ∷ l) h zero t = inl refl
-stopped-at-two e ((b ⇒ d) ∷ l) h (suc k) t = let s = skip b d e (first l) (only_two e l k) t h in stopped-at-two e l s.1 k s.2
+stopped_at_two e [] h k t = absurd (never_is e [] tt h)
+stopped_at_two e ((false ⇒ d) ∷ l) h zero t = inr (stopped e l h zero t)
+stopped_at_two e ((true ⇒ d) ∷ l) h zero t = inl refl
+stopped_at_two e ((b ⇒ d) ∷ l) h (suc k) t = let s = skip b d e (first l) (only_two e l k) t h in stopped_at_two e l s.1 k s.2

@@ -17,35 +17,35 @@ use Rattle.endpoint.specs.declared.Endpoint.TheVariants.{Invalid, Send, Receive}
 use Rattle.endpoint.specs.declared.SendFields.{SendFields}
 use Rattle.endpoint.specs.declared.ReceiveFields.{ReceiveFields}
 use Rattle.table.specs.Table.{Table, place, endpoint_at, view}
-use Rattle.table.proofs.TableLaws.{live, good-at}
+use Rattle.table.proofs.TableLaws.{live, good_at}
 use Rattle.command.specs.Checked.{Checked}
 
 -- the words of a tile that exists are among the lent ones
-pub tile-words : (b : Board) (n tile : ℕ) → n ≡ b.tiles * 192 → tile < b.tiles → tile * 192 + 192 ≤ n
-tile-words b n tile h l = omega arith
+pub tile_words : (b : Board) (n tile : ℕ) → n ≡ b.tiles * 192 → tile < b.tiles → tile * 192 + 192 ≤ n
+tile_words b n tile h l = omega arith
 
-pub own-words : (b : Board) (ws : List ℕ) (tile : ℕ) → Checked b ws tile → tile * 192 + 192 ≤ length ws
-own-words b ws tile c = tile-words b (length ws) tile c.long c.there
+pub own_words : (b : Board) (ws : List ℕ) (tile : ℕ) → Checked b ws tile → tile * 192 + 192 ≤ length ws
+own_words b ws tile c = tile_words b (length ws) tile c.long c.there
 
 -- an endpoint of a kind was read at a number below 64
-pub live-send : (o : Endpoint) (t : Table) (tile ep : ℕ) (s : SendFields) → o ≡ endpoint_at t tile ep → o ≡ Send s → ep < 64
-live-send o t tile ep s q p = live t tile ep (ap is_invalid (sym q ∙ p))
+pub live_send : (o : Endpoint) (t : Table) (tile ep : ℕ) (s : SendFields) → o ≡ endpoint_at t tile ep → o ≡ Send s → ep < 64
+live_send o t tile ep s q p = live t tile ep (ap is_invalid (sym q ∙ p))
 
-pub live-receive : (o : Endpoint) (t : Table) (tile ep : ℕ) (r : ReceiveFields) → o ≡ endpoint_at t tile ep → o ≡ Receive r → ep < 64
-live-receive o t tile ep r q p = live t tile ep (ap is_invalid (sym q ∙ p))
+pub live_receive : (o : Endpoint) (t : Table) (tile ep : ℕ) (r : ReceiveFields) → o ≡ endpoint_at t tile ep → o ≡ Receive r → ep < 64
+live_receive o t tile ep r q p = live t tile ep (ap is_invalid (sym q ∙ p))
 
 -- whatever is read of a tile that exists is acceptable there
-pub read-acceptable : (b : Board) (ws : List ℕ) (tile at ep : ℕ) → Checked b ws tile → at < b.tiles → acceptable (size_of b at) (endpoint_at (view ws) at ep) ≡ true
+pub read_acceptable : (b : Board) (ws : List ℕ) (tile at ep : ℕ) → Checked b ws tile → at < b.tiles → acceptable (size_of b at) (endpoint_at (view ws) at ep) ≡ true
 unfolding endpoint_at ◌gives◌else◌ acceptable
-read-acceptable b ws tile at ep c l = go (leb 64 ep) refl
+read_acceptable b ws tile at ep c l = go (leb 64 ep) refl
   where
     go : (x : Bool) → leb 64 ep ≡ x → acceptable (size_of b at) (x gives Invalid else view ws (place at ep)) ≡ true
     go true e = refl
     go false e =
         let h : ep < 64 = leb-false 64 ep e in
         let q : place at ep / 64 ≡ at = omega arith in
-        rw q at (good-at b ws c.good (place at ep) (omega arith))
+        rw q at (good_at b ws c.good (place at ep) (omega arith))
 
-pub acceptable-receive : (b : Board) (ws : List ℕ) (tile at ep : ℕ) (o : Endpoint) (r : ReceiveFields) → Checked b ws tile → at < b.tiles
+pub acceptable_receive : (b : Board) (ws : List ℕ) (tile at ep : ℕ) (o : Endpoint) (r : ReceiveFields) → Checked b ws tile → at < b.tiles
     → o ≡ endpoint_at (view ws) at ep → o ≡ Receive r → acceptable (size_of b at) (Receive r) ≡ true
-acceptable-receive b ws tile at ep o r c l q p = ap (acceptable (size_of b at)) (sym p ∙ q) ∙ read-acceptable b ws tile at ep c l
+acceptable_receive b ws tile at ep o r c l q p = ap (acceptable (size_of b at)) (sym p ∙ q) ∙ read_acceptable b ws tile at ep c l

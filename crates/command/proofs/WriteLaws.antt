@@ -15,7 +15,7 @@ use Rattle.endpoint.specs.Acceptable.{acceptable}
 use Rattle.endpoint.specs.declared.Endpoint.{Endpoint}
 use Rattle.table.specs.Table.{Table, view, stored}
 use Rattle.table.specs.Good.{memory_at, good_table}
-use Rattle.table.proofs.TableLaws.{length-stored, view-stored, good-stored}
+use Rattle.table.proofs.TableLaws.{length-stored, view-stored, good_stored}
 use Rattle.command.specs.Checks.{first, ◌fails◌else◌}
 use Rattle.command.specs.Command.{Write, ◌⇐◌to◌, Put, nothing, bytes_to, Effect, Command}
 use Rattle.command.specs.Outcome.{outcome, completes, finishes, written, tabled, placed, settled, carried}
@@ -55,23 +55,23 @@ view-written b ((true ⇐ e to q) ∷ l) ws n h =
     ∙ ap (λ (t : Table). tabled t l) (view-stored ws q (memory_at b q) e (inside b (length ws) q n f.there) f.ok)
 view-written b ((false ⇐ e to q) ∷ l) ws n h = view-written b l ws n h.1
 
-pub good-written : (b : Board) (l : List Write) (ws : List ℕ) → length ws ≡ b.tiles * 192 → Fits b l → good_table b ws ≡ true → good_table b (written ws l) ≡ true
+pub good_written : (b : Board) (l : List Write) (ws : List ℕ) → length ws ≡ b.tiles * 192 → Fits b l → good_table b ws ≡ true → good_table b (written ws l) ≡ true
 unfolding written
-good-written b [] ws n h good = good
-good-written b ((true ⇐ e to q) ∷ l) ws n h good =
+good_written b [] ws n h good = good
+good_written b ((true ⇐ e to q) ∷ l) ws n h good =
     let f = h.0 refl in
-    good-written b l (stored ws q e) (length-stored ws q e ∙ n) h.1 (good-stored b ws good q e (inside b (length ws) q n f.there) f.ok)
-good-written b ((false ⇐ e to q) ∷ l) ws n h good = good-written b l ws n h.1 good
+    good_written b l (stored ws q e) (length-stored ws q e ∙ n) h.1 (good_stored b ws good q e (inside b (length ws) q n f.there) f.ok)
+good_written b ((false ⇐ e to q) ∷ l) ws n h good = good_written b l ws n h.1 good
 
 -- ---- what a command comes to, by its answer
 module _ {X : Type 0} (f : Error → X) (g : Effect → X) (k : Command) where
-  pub settled-refused : (e : Error) → first k.checks ≡ Refused e → settled f g k ≡ f e
+  pub settled_refused : (e : Error) → first k.checks ≡ Refused e → settled f g k ≡ f e
   unfolding settled ◌fails◌else◌
-  settled-refused e h = rw h
+  settled_refused e h = rw h
 
-  pub settled-accepted : first k.checks ≡ None → settled f g k ≡ g k.effect
+  pub settled_accepted : first k.checks ≡ None → settled f g k ≡ g k.effect
   unfolding settled ◌fails◌else◌
-  settled-accepted h = rw h
+  settled_accepted h = rw h
 
 -- an answer is NONE or a refusal
 pub by_answer : {P : Type 0} (r : Answer) → (r ≡ None → P) → ((e : Error) → r ≡ Refused e → P) → P
@@ -79,32 +79,32 @@ by_answer None f g = f refl
 by_answer (Refused e) f g = g e refl
 
 module _ (x : ℕ) (ws bs : List ℕ) (k : Command) where
-  pub carried-refused : (e : Error) → first k.checks ≡ Refused e → carried x ws bs k ≡ outcome (completes (Refused e) x) ws bs
+  pub carried_refused : (e : Error) → first k.checks ≡ Refused e → carried x ws bs k ≡ outcome (completes (Refused e) x) ws bs
   unfolding carried
-  carried-refused e h = settled-refused _ _ k e h
+  carried_refused e h = settled_refused _ _ k e h
 
-  pub carried-accepted : first k.checks ≡ None → carried x ws bs k ≡ outcome (finishes k.effect.hands k.effect.notes) (written ws k.effect.writes) (placed bs k.effect.puts)
+  pub carried_accepted : first k.checks ≡ None → carried x ws bs k ≡ outcome (finishes k.effect.hands k.effect.notes) (written ws k.effect.writes) (placed bs k.effect.puts)
   unfolding carried
-  carried-accepted h = settled-accepted _ _ k h
+  carried_accepted h = settled_accepted _ _ k h
 
-  pub length-words : length (carried x ws bs k).words ≡ length ws
+  pub length_words : length (carried x ws bs k).words ≡ length ws
   unfolding outcome
-  length-words = by_answer (first k.checks) (λ h. rw (carried-accepted h) (length-written k.effect.writes ws)) (λ e h. rw (carried-refused e h))
+  length_words = by_answer (first k.checks) (λ h. rw (carried_accepted h) (length-written k.effect.writes ws)) (λ e h. rw (carried_refused e h))
 
   pub length-bytes : length (carried x ws bs k).bytes ≡ length bs
   unfolding outcome
-  length-bytes = by_answer (first k.checks) (λ h. rw (carried-accepted h) (length-placed bs k.effect.puts)) (λ e h. rw (carried-refused e h))
+  length-bytes = by_answer (first k.checks) (λ h. rw (carried_accepted h) (length-placed bs k.effect.puts)) (λ e h. rw (carried_refused e h))
 
   -- where the writes of an accepted command fit
   module _ (b : Board) (n : length ws ≡ b.tiles * 192) (fits : first k.checks ≡ None → Fits b k.effect.writes) where
-    pub good-words : good_table b ws ≡ true → good_table b (carried x ws bs k).words ≡ true
+    pub good_words : good_table b ws ≡ true → good_table b (carried x ws bs k).words ≡ true
     unfolding outcome
-    good-words good =
-        by_answer (first k.checks) (λ h. rw (carried-accepted h) (good-written b k.effect.writes ws n (fits h) good)) (λ e h. rw (carried-refused e h) good)
+    good_words good =
+        by_answer (first k.checks) (λ h. rw (carried_accepted h) (good_written b k.effect.writes ws n (fits h) good)) (λ e h. rw (carried_refused e h) good)
 
-    pub view-words : view (carried x ws bs k).words ≡ settled (λ e. view ws) (λ d. tabled (view ws) d.writes) k
+    pub view_words : view (carried x ws bs k).words ≡ settled (λ e. view ws) (λ d. tabled (view ws) d.writes) k
     unfolding outcome
-    view-words =
+    view_words =
         by_answer (first k.checks)
-        (λ h. rw (carried-accepted h, settled-accepted (λ e. view ws) (λ d. tabled (view ws) d.writes) k h) (view-written b k.effect.writes ws n (fits h)))
-        (λ e h. rw (carried-refused e h, settled-refused (λ e. view ws) (λ d. tabled (view ws) d.writes) k e h))
+        (λ h. rw (carried_accepted h, settled_accepted (λ e. view ws) (λ d. tabled (view ws) d.writes) k h) (view-written b k.effect.writes ws n (fits h)))
+        (λ e h. rw (carried_refused e h, settled_refused (λ e. view ws) (λ d. tabled (view ws) d.writes) k e h))

@@ -17,17 +17,17 @@ use Rattle.delivery.specs.Stowing.{Stowed}
 use Rattle.delivery.specs.declared.Header.{Header}
 
 module _ (b : Board) (tile : ℕ) (a : Registers) (s : SendFields) (r : ReceiveFields) (i : ℕ) (h : Header) (p q : ℕ) (at_local : p ≡ local_at b tile a) (at_slot : q ≡ slot_at b s r i) where
-  pub local-range : (n : ℕ) → Stowed b n tile a s r i h → p + a.size ≤ n
+  pub local_range : (n : ℕ) → Stowed b n tile a s r i h → p + a.size ≤ n
   unfolding local_at
-  local-range n z = omega (arith, range_inside b tile a.addr a.size z.own z.local-in, z.long)
+  local_range n z = omega (arith, range_inside b tile a.addr a.size z.own z.local_in, z.long)
 
-  pub slot-range : (n : ℕ) → Stowed b n tile a s r i h → q + 32 + a.size ≤ n
+  pub slot_range : (n : ℕ) → Stowed b n tile a s r i h → q + 32 + a.size ≤ n
   unfolding slot_at
-  slot-range n z =
+  slot_range n z =
       omega (
         arith,
         range_inside b s.tgt_tile (r.buffer + i * 2 ^ r.slot_size) (2 ^ r.slot_size) z.slot.there z.slot.within,
-        z.fits-slot,
+        z.fits_slot,
         z.long,
       )
 

@@ -24,6 +24,6 @@ pub record Stowed (b : Board) (n tile : ℕ) (a : Registers) (s : SendFields) (r
   pub slot : SlotIn b s r i
   pub long : n ≡ bytes_of b
   pub own : tile < b.tiles
-  pub local-in : a.addr + a.size ≤ size_of b tile
-  pub fits-slot : a.size + 32 ≤ 2 ^ r.slot_size
+  pub local_in : a.addr + a.size ≤ size_of b tile
+  pub fits_slot : a.size + 32 ≤ 2 ^ r.slot_size
   pub fields_fit : All (fit (header_fields h))

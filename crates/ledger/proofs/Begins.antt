@@ -19,9 +19,9 @@ use Rattle.wiring.specs.Credits.{share, held, credits_held, promise, promised}
 use Rattle.ledger.specs.Ledger.{Held, nothing, blank, kept, asks}
 use Rattle.wiring.specs.Sound.{beside, Receiver, Ranged, Sender, Sound}
 use Rattle.wiring.proofs.Places.{clash, same?}
-use Rattle.wiring.proofs.SumLaws.{sum-le, sum-none}
+use Rattle.wiring.proofs.SumLaws.{sum_le, sum_none}
 use Rattle.ledger.proofs.SlotFacts.{no_bits}
-use Rattle.ledger.proofs.Shapes.{other, sender, shape, shape-send, is-sender, is-receiver, cur, most}
+use Rattle.ledger.proofs.Shapes.{other, sender, shape, shape_send, is_sender, is_receiver, cur, most}
 use Rattle.ledger.proofs.Inv.{Net, Takes, Gives, Wires, Slot, occ, weigh, among, asks_of, Inv}
 
 -- the wiring as it was at the start
@@ -42,7 +42,7 @@ module _ (n : ℕ) (t : Table) (O : Sound n t) where
       let a = O.aims S in
       let low : s.tgt_ep < 64 = live t s.tgt_tile s.tgt_ep (ap is_invalid a.2.1) in
       record {
-        is = ap shape S.is ∙ shape-send s (O.clean S) a.0 low;
+        is = ap shape S.is ∙ shape_send s (O.clean S) a.0 low;
         tile = a.1;
         low = low;
         g = a.2.0;
@@ -60,7 +60,7 @@ module _ (n : ℕ) (t : Table) (O : Sound n t) where
 
   wired : {r p k : ℕ} → Takes (net n t) r p k → Wired r p k
   wired {r} {p} {k} R =
-      let v = is-receiver (t r) p k R.is in
+      let v = is_receiver (t r) p k R.is in
       let at : Receiver n t r v.0 = record { there = R.there; is = v.1 } in
       record { g = v.0; at = at; rpl = v.2; slots = v.3; ranged = λ np. record { at = at; has = λ q. np (sym v.2 ∙ q) }; low = λ i l. rw v.3 l }
 
@@ -72,7 +72,7 @@ module _ (n : ℕ) (t : Table) (O : Sound n t) where
         aims : {s r : ℕ} → Gives (net n t) s r → (p : ℕ) × (k : ℕ) × Takes (net n t) r p k
         aims {s} {r} G =
             let f : SendFields = send_of (t s) in
-            let v : Feeds s f = feeds (record { there = G.there; is = is-sender (t s) G.is }) in
+            let v : Feeds s f = feeds (record { there = G.there; is = is_sender (t s) G.is }) in
             let er : r ≡ place f.tgt_tile f.tgt_ep = cc (G.is, v.is) in
             (v.g.rpl_eps, v.g.slots, record { there = rw er (omega (arith, v.tile, v.low)); is = ap shape (ap t er ∙ v.dst) })
 
@@ -112,11 +112,11 @@ module _ (n : ℕ) (t : Table) (O : Sound n t) where
 
         -- no slot holds anything
         empty : (w : Held → ℕ) → w nothing ≡ 0 → {r p k : ℕ} (R : Takes (net n t) r p k) → weigh w k (occ (t r)) (λ i. nothing) ≡ 0
-        empty w zeroes {r} {p} {k} R = sum-none (2 ^ k) (λ i. w (kept (has_bit (occ (t r)) i) nothing)) (λ i. rw (none R i) zeroes)
+        empty w zeroes {r} {p} {k} R = sum_none (2 ^ k) (λ i. w (kept (has_bit (occ (t r)) i) nothing)) (λ i. rw (none R i) zeroes)
 
         -- every sender's credits are full
         owed : (r s p k : ℕ) → Gives (net n t) s r → Takes (net n t) r p k → cur (t s) + weigh (asks_of s) k (occ (t r)) (λ i. nothing) ≤ most (t s)
-        owed r s p k G R = omega (arith, empty (asks_of s) refl R, (O.whole (record { there = G.there; is = is-sender (t s) G.is })).0)
+        owed r s p k G R = omega (arith, empty (asks_of s) refl R, (O.whole (record { there = G.there; is = is_sender (t s) G.is })).0)
 
         each : (r q : ℕ) → q < n * 64 → (x : Endpoint) → t q ≡ x → held r x ≤ promise r x
         each r q l Invalid e = le_refl 0
@@ -128,4 +128,4 @@ module _ (n : ℕ) (t : Table) (O : Sound n t) where
         full r p k R =
             let v = wired R in
             rw (← v.slots)
-            (omega (arith, rw (← v.slots) at (empty asks refl R), O.given v.at, sum-le (n * 64) (λ q. held r (t q)) (λ q. promise r (t q)) (λ q l. each r q l (t q) refl)))
+            (omega (arith, rw (← v.slots) at (empty asks refl R), O.given v.at, sum_le (n * 64) (λ q. held r (t q)) (λ q. promise r (t q)) (λ q l. each r q l (t q) refl)))

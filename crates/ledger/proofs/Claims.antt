@@ -7,7 +7,7 @@ use mathlib.Core.Path.{◌≡◌, refl, sym, ap, ◌∙◌}
 use native.Mathlib.Omega.{arith}
 use borrow.Author.Tests.{eqb-false, leb-true, leb-false}
 use lib.Dec.{eqb, leb}
-use Rattle.numbers.proofs.TestLaws.{split-and}
+use Rattle.numbers.proofs.TestLaws.{split_and}
 use Rattle.answers.specs.declared.Answer.TheVariants.{Refused}
 use Rattle.answers.specs.declared.Error.TheVariants.{RecvNoSpace}
 use Rattle.board.specs.declared.Board.{Board}
@@ -17,21 +17,21 @@ use Rattle.endpoint.specs.declared.ReceiveFields.{ReceiveFields}
 use Rattle.endpoint.specs.declared.Endpoint.TheVariants.{Send, Receive}
 use Rattle.table.specs.Table.{Table, place, endpoint_at}
 use Rattle.sharing.specs.Sharing.{Shared, waiting_of, foreign, crowded}
-use Rattle.sharing.proofs.ShareLaws.{good-at}
+use Rattle.sharing.proofs.ShareLaws.{good_at}
 use Rattle.slots.specs.Slots.{slots_of, free_slot}
 use Rattle.command.specs.Checks.{first, ◌then◌}
 use Rattle.command.specs.Command.{is_nothing, does, ◌noting◌, ◌▸◌, ◌▸▸◌, send◌or◌gives◌, receive◌or◌gives◌, slot◌or◌gives◌}
 use Rattle.command.specs.declared.Registers.{Registers}
-use Rattle.command.proofs.CheckFacts.{before, stopped-at-two}
+use Rattle.command.proofs.CheckFacts.{before, stopped_at_two}
 use Rattle.delivery.specs.Delivery as delivery
 use Rattle.messages.specs.Send as sending
 use Rattle.wiring.specs.Sums.{sum}
 use Rattle.wiring.specs.Credits.{held, credits_held}
 use Rattle.ledger.specs.Ledger.{Held, nothing, request, reply, Ledger, asks, holds, requests_held}
 use Rattle.wiring.specs.Sound.{Receiver, Sender, Sound}
-use Rattle.wiring.proofs.SumLaws.{sum-term}
+use Rattle.wiring.proofs.SumLaws.{sum_term}
 use Rattle.ledger.proofs.SlotFacts.{none_free}
-use Rattle.ledger.proofs.Shapes.{shape, cur, is-sender, held-send}
+use Rattle.ledger.proofs.Shapes.{shape, cur, is_sender, held_send}
 use Rattle.ledger.proofs.Inv.{Net, Inv}
 use Rattle.ledger.proofs.Steps.{takes}
 use Rattle.table.proofs.TableLaws.{look}
@@ -55,7 +55,7 @@ module _ (n : ℕ) (t₀ t : Table) (O : Sound n t₀) (L : Ledger) (I : Inv (ne
   books {q} {s} S =
       let v : Feeds n t₀ O q s = feeds n t₀ O S in (
         send_of (t q),
-        is-sender (t q) (I.fixed q ∙ v.is),
+        is_sender (t q) (I.fixed q ∙ v.is),
         I.books q (place s.tgt_tile s.tgt_ep) (record { there = S.there; is = v.is }) ∙ ap (λ x. cur x + L.answered q) S.is,
       )
 
@@ -79,11 +79,11 @@ module _ (N : Net) (b : Board) (size : N.places ≡ b.tiles * 64) (t : Table) (L
   z = receive_of (endpoint_at t f.tgt_tile f.tgt_ep)
 
   record Found : Type 0 where
-    sends-it : Stands n t tile ep (Send f)
-    receives-it : Stands n t f.tgt_tile f.tgt_ep (Receive z)
+    sends_it : Stands n t tile ep (Send f)
+    receives_it : Stands n t f.tgt_tile f.tgt_ep (Receive z)
     unmarked : f.reply ≡ false
-    on-chip : not (eqb f.tgt_chip 0) ≡ false
-    on-board : leb n f.tgt_tile ≡ false
+    on_chip : not (eqb f.tgt_chip 0) ≡ false
+    on_board_lem : leb n f.tgt_tile ≡ false
     credit : eqb f.cur_crd 0 ≡ false
     cause : (is_nothing (free_slot z) ≡ true) ⊎ (crowded sh f.tgt_tile z.act ≡ true)
 
@@ -92,21 +92,21 @@ module _ (N : Net) (b : Board) (size : N.places ≡ b.tiles * 64) (t : Table) (L
   found =
       let ok = before RecvNoSpace (sending.SEND b t sh bs own tile ep a).checks h in
       record {
-        sends-it = sends n t tile ep l (ok 0 tt);
-        receives-it = receives n t f.tgt_tile f.tgt_ep (ok 11 tt) (ok 12 tt);
+        sends_it = sends n t tile ep l (ok 0 tt);
+        receives_it = receives n t f.tgt_tile f.tgt_ep (ok 11 tt) (ok 12 tt);
         unmarked = ok 1 tt;
-        on-chip = ok 10 tt;
-        on-board = ok 11 tt;
+        on_chip = ok 10 tt;
+        on_board_lem = ok 11 tt;
         credit = ok 9 tt;
-        cause = stopped-at-two RecvNoSpace (sending.SEND b t sh bs own tile ep a).checks h 15 tt;
+        cause = stopped_at_two RecvNoSpace (sending.SEND b t sh bs own tile ep a).checks h 15 tt;
       }
 
   -- no slot is free: one of them holds a reply, since a credit is left
   no_slot : is_nothing (free_slot z) ≡ true → (i : ℕ) × (i < slots_of (receive_of (t r))) × (holds t L r i ≡ reply)
   unfolding credits_held
   no_slot nowhere =
-      let x = found.sends-it in
-      let y = found.receives-it in
+      let x = found.sends_it in
+      let y = found.receives_it in
       let s : ℕ = place tile ep in
       let g : ReceiveFields = receive_of (t r) in
       let is : t r ≡ Receive g = y.is ∙ ap Receive (sym (ap receive_of y.is)) in
@@ -114,8 +114,8 @@ module _ (N : Net) (b : Board) (size : N.places ≡ b.tiles * 64) (t : Table) (L
       let none = rw (look t f.tgt_tile f.tgt_ep y.low) at nowhere in
       let some : 1 ≤ credits_held N.places t r = omega (
         arith,
-        sum-term N.places s (λ q. held r (t q)) (rw size x.there),
-        held-send r (t s) (ap shape x.is ∙ aimed f found.unmarked found.on-chip y.low),
+        sum_term N.places s (λ q. held r (t q)) (rw size x.there),
+        held_send r (t s) (ap shape x.is ∙ aimed f found.unmarked found.on_chip y.low),
         ap cur x.is,
         eqb-false f.cur_crd 0 found.credit,
       ) in
@@ -127,8 +127,8 @@ module _ (N : Net) (b : Board) (size : N.places ≡ b.tiles * 64) (t : Table) (L
   no_place : crowded sh f.tgt_tile z.act ≡ true → waiting_of sh f.tgt_tile ≡ 64
   unfolding crowded
   no_place q =
-      let waits = leb-true 64 (waiting_of sh f.tgt_tile) (split-and (foreign sh f.tgt_tile z.act) (leb 64 (waiting_of sh f.tgt_tile)) q).1 in
-      let most = (good-at b sh f.tgt_tile shares (leb-false n f.tgt_tile found.on-board)).few in
+      let waits = leb-true 64 (waiting_of sh f.tgt_tile) (split_and (foreign sh f.tgt_tile z.act) (leb 64 (waiting_of sh f.tgt_tile)) q).1 in
+      let most = (good_at b sh f.tgt_tile shares (leb-false n f.tgt_tile found.on_board_lem)).few in
       omega arith
 
   pub full : ((i : ℕ) × (i < slots_of (receive_of (t r))) × (holds t L r i ≡ reply)) ⊎ (waiting_of sh f.tgt_tile ≡ 64)

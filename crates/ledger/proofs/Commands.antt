@@ -31,9 +31,9 @@ use Rattle.delivery.specs.declared.Header.{Header}
 use Rattle.delivery.specs.Delivery as delivery
 use Rattle.messages.specs.Send as sending
 use Rattle.credits.specs.Credits.{with_credits}
-use Rattle.credits.proofs.RoomLaws.{room-is}
+use Rattle.credits.proofs.RoomLaws.{room_is}
 use Rattle.messages.specs.Reply as replying
-use Rattle.machine.proofs.Fitting.{is-send, is-receive}
+use Rattle.machine.proofs.Fitting.{is_send_lem, is_receive_lem}
 use Rattle.wiring.proofs.Right.{Turns}
 use Rattle.receive.specs.Fetch as fetching
 use Rattle.receive.specs.Ack as acking
@@ -42,11 +42,11 @@ use Rattle.machine.specs.Machine.{Opcode, op_idle, op_send, op_reply, op_read, o
 use Rattle.ledger.specs.Ledger.{Ledger, next_slot, entered}
 use Rattle.wiring.specs.Sound.{beside}
 use Rattle.wiring.proofs.Places.{clash}
-use Rattle.ledger.proofs.SlotFacts.{next-free}
-use Rattle.ledger.proofs.Shapes.{sender, shape, cur, most, shape-send, is-sender}
+use Rattle.ledger.proofs.SlotFacts.{next_free}
+use Rattle.ledger.proofs.Shapes.{sender, shape, cur, most, shape_send, is_sender}
 use Rattle.ledger.proofs.Inv.{Net, Gives, Inv}
 use Rattle.ledger.proofs.Moves.{few}
-use Rattle.ledger.proofs.Steps.{Sending, send-keeps, Replying, named_by, sender-is, short, reply-keeps, fetch-keeps, ack-bare, ack-keeps}
+use Rattle.ledger.proofs.Steps.{Sending, send_keeps, Replying, named_by, sender_is, short, reply_keeps, fetch_keeps, ack_bare, ack_keeps}
 
 -- ---- what stands at a place
 -- an endpoint that a command has found to be of some kind
@@ -62,46 +62,46 @@ stands n t a e x l h d =
 
 module _ (n : ℕ) (t : Table) (a e : ℕ) (l : leb n a ≡ false) where
   pub receives : not (is_receive (endpoint_at t a e)) ≡ false → Stands n t a e (Receive (receive_of (endpoint_at t a e)))
-  receives h = stands n t a e _ l (is-receive (endpoint_at t a e) (not-false _ h)) refl
+  receives h = stands n t a e _ l (is_receive_lem (endpoint_at t a e) (not-false _ h)) refl
 
   pub sends : not (is_send (endpoint_at t a e)) ≡ false → Stands n t a e (Send (send_of (endpoint_at t a e)))
-  sends h = stands n t a e _ l (is-send (endpoint_at t a e) (not-false _ h)) refl
+  sends h = stands n t a e _ l (is_send_lem (endpoint_at t a e) (not-false _ h)) refl
 
 -- a sender that a SEND has found aims at the receiver that it has found
 pub aimed : (f : SendFields) → f.reply ≡ false → not (eqb f.tgt_chip 0) ≡ false → f.tgt_ep < 64 → shape (Send f) ≡ sender (place f.tgt_tile f.tgt_ep)
-aimed f h c l = shape-send f h (eqb-true f.tgt_chip 0 (not-false _ c)) l
+aimed f h c l = shape_send f h (eqb-true f.tgt_chip 0 (not-false _ c)) l
 
 -- an endpoint of the same tile
-at-tile : (a e k : ℕ) → e < 64 → place a k ≡ beside (place a e) k
-at-tile a e k l = omega arith
+at_tile : (a e k : ℕ) → e < 64 → place a k ≡ beside (place a e) k
+at_tile a e k l = omega arith
 
 -- ---- the credit and the reply endpoint
-told-ranged : (a b : Bool) → not a && not b ≡ true → b ≡ false
-told-ranged true b h = clash (cc)
-told-ranged false true h = clash (cc)
-told-ranged false false h = refl
+told_ranged : (a b : Bool) → not a && not b ≡ true → b ≡ false
+told_ranged true b h = clash (cc)
+told_ranged false true h = clash (cc)
+told_ranged false false h = refl
 
 -- a sender that has fewer credits than it may have, and fewer than 62, gets its credit
-creditable-is : (x : Endpoint) → x ≡ Send (send_of x) → cur x < most x → cur x ≤ 61 → replying.creditable x ≡ true
+creditable_is : (x : Endpoint) → x ≡ Send (send_of x) → cur x < most x → cur x ≤ 61 → replying.creditable x ≡ true
 unfolding replying.creditable
-creditable-is x e l m = rw (ap is_send e, room-is (send_of x) (l, (m, tt)))
+creditable_is x e l m = rw (ap is_send e, room_is (send_of x) (l, (m, tt)))
 
-credited-is : (x : Endpoint) → replying.credited x ≡ Send (with_credits (send_of x) (cur x + 1))
+credited_is : (x : Endpoint) → replying.credited x ≡ Send (with_credits (send_of x) (cur x + 1))
 unfolding replying.credited
-credited-is x = refl
+credited_is x = refl
 
-rep-is : (tile ep : ℕ) (f : SendFields) (a : Registers) → (replying.response tile ep f a).rep ≡ f.crd_ep
+rep_is : (tile ep : ℕ) (f : SendFields) (a : Registers) → (replying.response tile ep f a).rep ≡ f.crd_ep
 unfolding replying.response
-rep-is tile ep f a = refl
+rep_is tile ep f a = refl
 
 -- the reply endpoint has its mark and names the sender
 marked : (g : ReceiveFields) (h : Header) → (sending.reply_to g h).reply ≡ true
 unfolding sending.reply_to
 marked g h = refl
 
-sep-is : (ep : ℕ) (f : SendFields) → eqb f.cur_crd 63 ≡ false → sending.sep_of ep f ≡ ep
+sep_is : (ep : ℕ) (f : SendFields) → eqb f.cur_crd 63 ≡ false → sending.sep_of ep f ≡ ep
 unfolding sending.sep_of ◌gives◌else◌
-sep-is ep f h = rw h
+sep_is ep f h = rw h
 
 module _ (g : ReceiveFields) (t : Table) (tile ep : ℕ) (f : SendFields) (a : Registers) where
   abbrev v : SendFields
@@ -111,9 +111,9 @@ module _ (g : ReceiveFields) (t : Table) (tile ep : ℕ) (f : SendFields) (a : R
   unfolding sending.reply_to sending.request
   named = refl
 
-  credit-of : v.crd_ep ≡ sending.sep_of ep f
+  credit_of : v.crd_ep ≡ sending.sep_of ep f
   unfolding sending.reply_to sending.request
-  credit-of = refl
+  credit_of = refl
 
 module _ (N : Net) (b : Board) (t : Table) (sh bs : List ℕ) (own tile : ℕ) (size : N.places ≡ b.tiles * 64) (turns : Turns b.tiles t)
     (l : leb b.tiles tile ≡ false) (L : Ledger) (I : Inv N t L) where
@@ -126,9 +126,9 @@ module _ (N : Net) (b : Board) (t : Table) (sh bs : List ℕ) (own tile : ℕ) (
   abbrev result : Opcode → ℕ → Registers → Table
   result op ep a = tabled t (step op ep a).effect.writes
 
-  send-case : (ep : ℕ) (a : Registers) → first (step op_send ep a).checks ≡ None → Inv N (result op_send ep a) (entered t tile op_send ep a L)
+  send_case : (ep : ℕ) (a : Registers) → first (step op_send ep a).checks ≡ None → Inv N (result op_send ep a) (entered t tile op_send ep a L)
   unfolding step_of tabled does ◌noting◌ ◌▸◌ ◌▸▸◌ send◌or◌gives◌ receive◌or◌gives◌ slot◌or◌gives◌ ◌then◌ delivery.message_checks delivery.far_checks delivery.fit_checks delivery.delivered delivery.arrival sending.last_checks sending.send_checks sending.reply_placed sending.credit_spent sending.send_writes sending.request_of sending.SEND
-  send-case ep a h =
+  send_case ep a h =
       let ok = passed (step op_send ep a).checks h in
       let f : SendFields = send_of (endpoint_at t tile ep) in
       let g : ReceiveFields = receive_of (endpoint_at t f.tgt_tile f.tgt_ep) in
@@ -138,7 +138,7 @@ module _ (N : Net) (b : Board) (t : Table) (sh bs : List ℕ) (own tile : ℕ) (
       let r : ℕ = place f.tgt_tile f.tgt_ep in
       let feeds : Gives N s r = record { there = rw size x.there; is = sym (I.fixed s) ∙ ap shape x.is ∙ aimed f (ok 1) (ok 10) y.low } in
       let c63 : eqb f.cur_crd 63 ≡ false = ne_eqb f.cur_crd 63 (λ e. omega (arith, ap cur x.is, few I feeds)) in
-      let free = next-free g (turns r g y.there y.is) (ok 15) in
+      let free = next_free g (turns r g y.there y.is) (ok 15) in
       let C : Sending N t s r f g (sending.reply_to g (sending.request t tile ep f a)) = record {
         feeds = feeds;
         src = x.is;
@@ -148,12 +148,12 @@ module _ (N : Net) (b : Board) (t : Table) (sh bs : List ℕ) (own tile : ℕ) (
         room = free.low;
         free = free.free;
         mark = marked g (sending.request t tile ep f a);
-        names = rw (named g t tile ep f a, sep-is ep f c63);
-        low = rw (credit-of g t tile ep f a, sep-is ep f c63) x.low;
+        names = rw (named g t tile ep f a, sep_is ep f c63);
+        low = rw (credit_of g t tile ep f a, sep_is ep f c63) x.low;
       } in
-      rw (c63, at-tile f.tgt_tile f.tgt_ep (g.rpl_eps + next_slot g) y.low)
-      (send-keeps I C (not (eqb (sending.request t tile ep f a).rep 65535) && not (eqb g.rpl_eps 65535))
-      (λ q. eqb-false g.rpl_eps 65535 (told-ranged (eqb (sending.request t tile ep f a).rep 65535) (eqb g.rpl_eps 65535) q)))
+      rw (c63, at_tile f.tgt_tile f.tgt_ep (g.rpl_eps + next_slot g) y.low)
+      (send_keeps I C (not (eqb (sending.request t tile ep f a).rep 65535) && not (eqb g.rpl_eps 65535))
+      (λ q. eqb-false g.rpl_eps 65535 (told_ranged (eqb (sending.request t tile ep f a).rep 65535) (eqb g.rpl_eps 65535) q)))
 
   -- the reply endpoint that an accepted REPLY uses
   abbrev answers : ℕ → Registers → SendFields
@@ -173,13 +173,13 @@ module _ (N : Net) (b : Board) (t : Table) (sh bs : List ℕ) (own tile : ℕ) (
       let x : Stands n t tile ep (Receive g) = receives n t tile ep l (ok 0) in
       let w : Stands n t tile (g.rpl_eps + i) (Send f) = sends n t tile (g.rpl_eps + i) l (ok 5) in
       let y : Stands n t f.tgt_tile f.tgt_ep (Receive g') = receives n t f.tgt_tile f.tgt_ep (ok 14) (ok 15) in
-      let free = next-free g' (turns (place f.tgt_tile f.tgt_ep) g' y.there y.is) (ok 18) in
+      let free = next_free g' (turns (place f.tgt_tile f.tgt_ep) g' y.there y.is) (ok 18) in
       record {
         there = rw size x.there;
         src = x.is;
         ranged = eqb-false g.rpl_eps 65535 (ok 1);
         low = leb-false (slots_of g) i (ok 4);
-        by = rw (at-tile tile ep (g.rpl_eps + i) x.low) at w.is;
+        by = rw (at_tile tile ep (g.rpl_eps + i) x.low) at w.is;
         there' = rw size y.there;
         dst = y.is;
         room = free.low;
@@ -194,12 +194,12 @@ module _ (N : Net) (b : Board) (t : Table) (sh bs : List ℕ) (own tile : ℕ) (
       let C = made ep a h in
       let s : ℕ = place f.tgt_tile f.crd_ep in
       let low = (named_by I C).1 in
-      let G = sender-is I C in
-      (low, rw (look t f.tgt_tile f.crd_ep low) (creditable-is (t s) (is-sender (t s) (I.fixed s ∙ G.is)) (short I C) (omega (arith, few I G))))
+      let G = sender_is I C in
+      (low, rw (look t f.tgt_tile f.crd_ep low) (creditable_is (t s) (is_sender (t s) (I.fixed s ∙ G.is)) (short I C) (omega (arith, few I G))))
 
-  reply-case : (ep : ℕ) (a : Registers) → first (step op_reply ep a).checks ≡ None → Inv N (result op_reply ep a) (entered t tile op_reply ep a L)
+  reply_case : (ep : ℕ) (a : Registers) → first (step op_reply ep a).checks ≡ None → Inv N (result op_reply ep a) (entered t tile op_reply ep a L)
   unfolding step_of tabled does ◌noting◌ ◌▸◌ ◌▸▸◌ send◌or◌gives◌ receive◌or◌gives◌ slot◌or◌gives◌ ◌then◌ delivery.message_checks delivery.far_checks delivery.fit_checks delivery.delivered delivery.arrival replying.from_checks replying.reply_checks replying.credit_to replying.credit_returned replying.reply_gone replying.slot_freed replying.reply_writes replying.response_of replying.answer_of replying.REPLY
-  reply-case ep a h =
+  reply_case ep a h =
       let ok = passed (step op_reply ep a).checks h in
       let g : ReceiveFields = receive_of (endpoint_at t tile ep) in
       let f : SendFields = answers ep a in
@@ -207,19 +207,19 @@ module _ (N : Net) (b : Board) (t : Table) (sh bs : List ℕ) (own tile : ℕ) (
       let back : eqb f.crd_ep 65535 ≡ false = ne_eqb f.crd_ep 65535 (omega (arith, (due ep a h).0)) in
       let s : ℕ = place f.tgt_tile f.crd_ep in
       rw (
-        rep-is tile ep f a,
+        rep_is tile ep f a,
         back,
         (due ep a h).1,
         look t f.tgt_tile f.crd_ep (due ep a h).0,
-        credited-is (t s),
+        credited_is (t s),
         (named_by I C).0,
-        at-tile tile ep (g.rpl_eps + slot_named g a.arg0) (receives n t tile ep l (ok 0)).low,
+        at_tile tile ep (g.rpl_eps + slot_named g a.arg0) (receives n t tile ep l (ok 0)).low,
       )
-      (reply-keeps I C)
+      (reply_keeps I C)
 
-  fetch-case : (ep : ℕ) (a : Registers) → first (step op_fetch ep a).checks ≡ None → Inv N (result op_fetch ep a) L
+  fetch_case : (ep : ℕ) (a : Registers) → first (step op_fetch ep a).checks ≡ None → Inv N (result op_fetch ep a) L
   unfolding step_of tabled does ◌noting◌ ◌▸◌ receive◌or◌gives◌ slot◌else◌gives◌ fetching.fetch_writes fetching.FETCH
-  fetch-case ep a h = go (unread_slot g) h
+  fetch_case ep a h = go (unread_slot g) h
     where
       g : ReceiveFields
       g = receive_of (endpoint_at t tile ep)
@@ -230,14 +230,14 @@ module _ (N : Net) (b : Board) (t : Table) (sh bs : List ℕ) (own tile : ℕ) (
       go : (u : Found) → first ((not (is_receive (endpoint_at t tile ep)) ⇒ NoRep) ∷ (not (eqb g.act own) ⇒ ForeignEp) ∷ (k u).checks) ≡ None
           → Inv N (tabled t (k u).effect.writes) L
       go Nothing h = I
-      go (At i d) h = fetch-keeps I (rw size x.there) x.is i
+      go (At i d) h = fetch_keeps I (rw size x.there) x.is i
         where
           x : Stands n t tile ep (Receive g)
           x = receives n t tile ep l (passed _ h 0)
 
-  ack-case : (ep : ℕ) (a : Registers) → first (step op_ack ep a).checks ≡ None → Inv N (result op_ack ep a) L
+  ack_case : (ep : ℕ) (a : Registers) → first (step op_ack ep a).checks ≡ None → Inv N (result op_ack ep a) L
   unfolding step_of tabled does ◌noting◌ ◌▸◌ ◌▸▸◌ receive◌or◌gives◌ ◌then◌ acking.ack_checks acking.ack_writes acking.ACK_MSG
-  ack-case ep a h = go (eqb g.rpl_eps 65535) refl
+  ack_case ep a h = go (eqb g.rpl_eps 65535) refl
     where
       g : ReceiveFields
       g = receive_of (endpoint_at t tile ep)
@@ -252,18 +252,18 @@ module _ (N : Net) (b : Board) (t : Table) (sh bs : List ℕ) (own tile : ℕ) (
       x = receives n t tile ep l (ok 0)
 
       go : (b : Bool) → eqb g.rpl_eps 65535 ≡ b → Inv N (result op_ack ep a) L
-      go true q = rw q (ack-bare I (rw size x.there) x.is i (eqb-true g.rpl_eps 65535 q))
+      go true q = rw q (ack_bare I (rw size x.there) x.is i (eqb-true g.rpl_eps 65535 q))
       go false q =
-          rw (q, at-tile tile ep (g.rpl_eps + i) x.low)
-          (ack-keeps I (rw size x.there) x.is i (eqb-false g.rpl_eps 65535 q) (leb-false (slots_of g) i (ok 3)))
+          rw (q, at_tile tile ep (g.rpl_eps + i) x.low)
+          (ack_keeps I (rw size x.there) x.is i (eqb-false g.rpl_eps 65535 q) (leb-false (slots_of g) i (ok 3)))
 
   pub accepted : (op : Opcode) (ep : ℕ) (a : Registers) → first (step op ep a).checks ≡ None → Inv N (result op ep a) (entered t tile op ep a L)
   unfolding step_of tabled does ◌noting◌ ◌▸◌ ◌▸▸◌ memory◌or◌gives◌ accessing.READ accessing.WRITE
   accepted op_idle ep a h = I
-  accepted op_send ep a h = send-case ep a h
-  accepted op_reply ep a h = reply-case ep a h
+  accepted op_send ep a h = send_case ep a h
+  accepted op_reply ep a h = reply_case ep a h
   accepted op_read ep a h = I
   accepted op_write ep a h = I
-  accepted op_fetch ep a h = fetch-case ep a h
-  accepted op_ack ep a h = ack-case ep a h
+  accepted op_fetch ep a h = fetch_case ep a h
+  accepted op_ack ep a h = ack_case ep a h
   accepted op_other ep a h = I

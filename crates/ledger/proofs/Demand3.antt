@@ -22,7 +22,7 @@ use Rattle.command.specs.Narrow.{Narrow}
 use Rattle.command.specs.Outcome.{outcome, written, tabled, settled}
 use Rattle.command.specs.declared.Registers.{Registers}
 use Rattle.command.proofs.CheckFacts.{passed, before}
-use Rattle.command.proofs.WriteLaws.{by_answer, carried-accepted, carried-refused}
+use Rattle.command.proofs.WriteLaws.{by_answer, carried_accepted, carried_refused}
 use Rattle.machine.proofs.Kept as kept
 use Rattle.machine.proofs.Demand1.{answered}
 use Rattle.machine.proofs.PrivilegedLaws.{one_of_three}
@@ -34,7 +34,7 @@ use Rattle.wiring.specs.Wiring.{wiring_of, YesExactly}
 use Rattle.wiring.specs.declared.Wiring.TheVariants.{Yes}
 use Rattle.ledger.specs.Demand3.{KeptBy, Demand3}
 use Rattle.ledger.specs.Room.{AlwaysRoom}
-use Rattle.wiring.proofs.Exactly.{yes-exactly}
+use Rattle.wiring.proofs.Exactly.{yes_exactly}
 use Rattle.wiring.proofs.Right.{few, turns, shares}
 use Rattle.ledger.proofs.Inv.{Net, Inv}
 use Rattle.ledger.proofs.Commands.{accepted, due}
@@ -42,19 +42,19 @@ use Rattle.ledger.proofs.Begins.{net, begins}
 use Rattle.ledger.proofs.Claims as claims
 
 -- ---- any step
-answer-is : (m : Machine) (c : Step) → answer_of m c ≡ first (call_of m c).checks
+answer_is : (m : Machine) (c : Step) → answer_of m c ≡ first (call_of m c).checks
 unfolding left left_by
-answer-is m c = answered (given_to c) m.words m.bytes (call_of m c)
+answer_is m c = answered (given_to c) m.words m.bytes (call_of m c)
 
 -- a refusal changes no word; nor does what writes none
 refused : (m : Machine) (c : Step) (e : Error) → first (call_of m c).checks ≡ Refused e → (left_of m c).words ≡ m.words
 unfolding outcome left left_by
-refused m c e h = rw (carried-refused (given_to c) m.words m.bytes (call_of m c) e h)
+refused m c e h = rw (carried_refused (given_to c) m.words m.bytes (call_of m c) e h)
 
 unwritten : (m : Machine) (c : Step) → (call_of m c).effect.writes ≡ [] → (left_of m c).words ≡ m.words
 unfolding outcome written left left_by
 unwritten m c q =
-    by_answer (first (call_of m c).checks) (λ h. rw (carried-accepted (given_to c) m.words m.bytes (call_of m c) h, q)) (λ e h. refused m c e h)
+    by_answer (first (call_of m c).checks) (λ h. rw (carried_accepted (given_to c) m.words m.bytes (call_of m c) h, q)) (λ e h. refused m c e h)
 
 -- ---- a command: where the machine is right and the tile is there, the answer is the command's own
 module _ (m : Machine) (tile op ep : ℕ) (a : Registers) where
@@ -76,13 +76,13 @@ module _ (m : Machine) (tile op ep : ℕ) (a : Registers) where
   unfolding command_of host_checks ◌▸▸◌ ◌then◌ first
   inner x p q h = record { sizes = not-false right p; there = q; answer = rw (p, q) at h }
 
-  when-accepted : first call.checks ≡ None → Inner None
+  when_accepted : first call.checks ≡ None → Inner None
   unfolding command_of host_checks ◌▸▸◌ ◌then◌
-  when-accepted h = let ok = passed call.checks h in inner None (ok 0) (ok 1) h
+  when_accepted h = let ok = passed call.checks h in inner None (ok 0) (ok 1) h
 
-  when-full : first call.checks ≡ Refused RecvNoSpace → Inner (Refused RecvNoSpace)
+  when_full : first call.checks ≡ Refused RecvNoSpace → Inner (Refused RecvNoSpace)
   unfolding command_of host_checks ◌▸▸◌ ◌then◌
-  when-full h = let ok = before RecvNoSpace call.checks h in inner (Refused RecvNoSpace) (ok 0 tt) (ok 1 tt) h
+  when_full h = let ok = before RecvNoSpace call.checks h in inner (Refused RecvNoSpace) (ok 0 tt) (ok 1 tt) h
 
   -- the table that an accepted one leaves in the words is the one that its writes make
   follows : Narrow a → right ≡ true → first call.checks ≡ None → view (left_of m (command tile op ep a)).words ≡ tabled (view m.words) call.effect.writes
@@ -90,19 +90,19 @@ module _ (m : Machine) (tile op ep : ℕ) (a : Registers) where
   follows n ok h = (kept.follows).command m.board m.words m.sharing m.bytes tile op ep a n ok a.arg1 ∙ rw h
 
 -- ---- the privileged side writes nothing
-privileged-bare : (m : Machine) (tile op arg0 arg1 : ℕ) → (call_of m (privileged tile op arg0 arg1)).effect.writes ≡ []
+privileged_bare : (m : Machine) (tile op arg0 arg1 : ℕ) → (call_of m (privileged tile op arg0 arg1)).effect.writes ≡ []
 unfolding privileged_of ◌▸▸◌ ◌▸◌ does ◌noting◌
-privileged-bare m tile op arg0 arg1 = one_of_three (λ k. k.effect.writes ≡ []) m.sharing tile op arg0 arg1 refl refl refl
+privileged_bare m tile op arg0 arg1 = one_of_three (λ k. k.effect.writes ≡ []) m.sharing tile op arg0 arg1 refl refl refl
 
-response-bare : (m : Machine) (tile : ℕ) → (call_of m (response tile)).effect.writes ≡ []
+response_bare : (m : Machine) (tile : ℕ) → (call_of m (response tile)).effect.writes ≡ []
 unfolding respond_of ◌▸▸◌ does ◌noting◌
-response-bare m tile = refl
+response_bare m tile = refl
 
 -- and has no entry
-no-entry : (x : Answer) (L : Ledger) → (x fails (λ e. L) else L) ≡ L
+no_entry : (x : Answer) (L : Ledger) → (x fails (λ e. L) else L) ≡ L
 unfolding ◌fails◌else◌
-no-entry None L = refl
-no-entry (Refused e) L = refl
+no_entry None L = refl
+no_entry (Refused e) L = refl
 
 -- ---- a run
 record Good (N : Net) (w : World) : Type 0 where
@@ -114,9 +114,9 @@ stays : {N : Net} (w : World) (c : Step) → (left_of w.machine c).words ≡ w.m
 unfolding next
 stays w c p q G = record { size = G.size; inv = rw (p, q) G.inv }
 
-command-keeps : {N : Net} (w : World) (tile op ep : ℕ) (a : Registers) → Narrow a → Good N w → Good N (next w (command tile op ep a))
+command_keeps : {N : Net} (w : World) (tile op ep : ℕ) (a : Registers) → Narrow a → Good N w → Good N (next w (command tile op ep a))
 unfolding next command_of ◌▸▸◌ ◌fails◌else◌
-command-keeps {N} w tile op ep a W G = go (first (call_of m c).checks) refl
+command_keeps {N} w tile op ep a W G = go (first (call_of m c).checks) refl
   where
     m : Machine
     m = w.machine
@@ -126,20 +126,20 @@ command-keeps {N} w tile op ep a W G = go (first (call_of m c).checks) refl
 
     go : (x : Answer) → first (call_of m c).checks ≡ x → Good N (next w c)
     go None h =
-        let i : Inner m tile op ep a None = when-accepted m tile op ep a h in
+        let i : Inner m tile op ep a None = when_accepted m tile op ep a h in
         record {
           size = G.size;
           inv =
-              rw (answer-is m c, h, follows m tile op ep a W i.sizes h)
+              rw (answer_is m c, h, follows m tile op ep a W i.sizes h)
               (accepted N m.board (view m.words) m.sharing m.bytes (own_of m.sharing tile) tile G.size
               (turns m.board m.words m.sharing m.bytes i.sizes) i.there w.ledger G.inv (opcode_of op) ep a i.answer);
         }
-    go (Refused e) h = stays w c (refused m c e h) (rw (answer-is m c, h)) G
+    go (Refused e) h = stays w c (refused m c e h) (rw (answer_is m c, h)) G
 
 keeps : {N : Net} (w : World) (c : Step) → IsNarrow c → Good N w → Good N (next w c)
-keeps w (command tile op ep a) W G = command-keeps w tile op ep a W G
-keeps w (privileged tile op arg0 arg1) W G = let c = privileged tile op arg0 arg1 in stays w c (unwritten w.machine c (privileged-bare w.machine tile op arg0 arg1)) (no-entry _ w.ledger) G
-keeps w (response tile) W G = let c = response tile in stays w c (unwritten w.machine c (response-bare w.machine tile)) (no-entry _ w.ledger) G
+keeps w (command tile op ep a) W G = command_keeps w tile op ep a W G
+keeps w (privileged tile op arg0 arg1) W G = let c = privileged tile op arg0 arg1 in stays w c (unwritten w.machine c (privileged_bare w.machine tile op arg0 arg1)) (no_entry _ w.ledger) G
+keeps w (response tile) W G = let c = response tile in stays w c (unwritten w.machine c (response_bare w.machine tile)) (no_entry _ w.ledger) G
 
 runs : {N : Net} (cs : List Step) → AllNarrow cs → (w : World) → Good N w → Good N (run w cs)
 unfolding run
@@ -152,9 +152,9 @@ reached : (m : Machine) → machine_right m.board m.words m.sharing m.bytes ≡ 
 reached m ok O cs W =
     runs cs W (start m) (record { size = refl; inv = begins m.board.tiles (view m.words) O (few m.board m.words m.sharing m.bytes ok) })
 
-pub demand-3 : Demand3
+pub demand_3 : Demand3
 unfolding Demand3 opcode_of ◌gives◌else◌ step_of
-demand-3 m₀ ok O cs W = record {
+demand_3 m₀ ok O cs W = record {
   books = claims.books n t₀ t O L G.inv;
   bound = claims.bound n t₀ t O L G.inv;
   full = full;
@@ -184,23 +184,23 @@ demand-3 m₀ ok O cs W = record {
         ((i : ℕ) × (i < slots_of (receive_of (t r))) × (holds t L r i ≡ reply)) ⊎ (waiting_of w.machine.sharing s.tgt_tile ≡ 64)
     full tile ep a h =
         let m : Machine = w.machine in
-        let i : Inner m tile 1 ep a (Refused RecvNoSpace) = when-full m tile 1 ep a (sym (answer-is m (command tile 1 ep a)) ∙ h) in
+        let i : Inner m tile 1 ep a (Refused RecvNoSpace) = when_full m tile 1 ep a (sym (answer_is m (command tile 1 ep a)) ∙ h) in
         claims.full (net n t₀) m.board G.size t L G.inv (turns m.board m.words m.sharing m.bytes i.sizes) m.sharing m.bytes
         (shares m.board m.words m.sharing m.bytes i.sizes) (own_of m.sharing tile) tile ep a i.there i.answer
 
 -- and so of every wiring to which the check says yes
-pub demand-3-checked : (m : Machine) → wiring_of m.board m.words m.sharing m.bytes ≡ Yes → (cs : List Step) → AllNarrow cs
+pub demand_3_checked : (m : Machine) → wiring_of m.board m.words m.sharing m.bytes ≡ Yes → (cs : List Step) → AllNarrow cs
     → KeptBy m (run (start m) cs)
 unfolding Demand3 YesExactly
-demand-3-checked m h = let p = (yes-exactly m.board m.words m.sharing m.bytes).0 h in demand-3 m p.0 p.1
+demand_3_checked m h = let p = (yes_exactly m.board m.words m.sharing m.bytes).0 h in demand_3 m p.0 p.1
 
 -- T-04: an accepted REPLY finds room for its credit
-pub always-room : AlwaysRoom
+pub always_room : AlwaysRoom
 unfolding AlwaysRoom opcode_of ◌gives◌else◌ step_of
-always-room m₀ ok O cs W tile ep a h =
+always_room m₀ ok O cs W tile ep a h =
     let w : World = run (start m₀) cs in
     let m : Machine = w.machine in
     let G : Good (net m₀.board.tiles (view m₀.words)) w = reached m₀ ok O cs W in
-    let i : Inner m tile 2 ep a None = when-accepted m tile 2 ep a (sym (answer-is m (command tile 2 ep a)) ∙ h) in
+    let i : Inner m tile 2 ep a None = when_accepted m tile 2 ep a (sym (answer_is m (command tile 2 ep a)) ∙ h) in
     (due (net m₀.board.tiles (view m₀.words)) m.board (view m.words) m.sharing m.bytes (own_of m.sharing tile) tile G.size
     (turns m.board m.words m.sharing m.bytes i.sizes) i.there w.ledger G.inv ep a i.answer).1

@@ -88,7 +88,7 @@ given tile opcode ep size arg0 = command tile opcode ep (registers size arg0)
 
 wide : (tile opcode ep size arg0 : ℕ) → size < 2 ^ 64 → arg0 < 2 ^ 64 → IsNarrow (given tile opcode ep size arg0)
 unfolding given registers
-wide tile opcode ep size arg0 p q = record { arg0-fits = q; addr-fits = lit< tt; size_fits = p; arg1-fits = lit< tt }
+wide tile opcode ep size arg0 p q = record { arg0_fits = q; addr_fits = lit< tt; size_fits = p; arg1_fits = lit< tt }
 
 -- tile 0 sends two messages and wants a reply to the first; tile 1 fetches that and replies to it
 commands : List Step
@@ -97,38 +97,38 @@ commands = given 0 1 4 16 6 ∷ given 0 1 4 16 65535 ∷ given 1 5 7 0 0 ∷ giv
 end : World
 end = run (start (machine crowded)) commands
 
-slot-at-end : ℕ → ℕ → Held
-slot-at-end r i = holds (view end.machine.words) end.ledger r i
+slot_at_end : ℕ → ℕ → Held
+slot_at_end r i = holds (view end.machine.words) end.ledger r i
 
 record Shown : Type 0 where
-  session-is-sound : check (machine session) ≡ Yes
-  too-many-is-not : check (machine too_many) ≡ No
-  crowded-is-sound : check (machine crowded) ≡ Yes
-  commands-are-wide : AllNarrow commands
+  session_is_sound : check (machine session) ≡ Yes
+  too_many_is_not : check (machine too_many) ≡ No
+  crowded_is_sound : check (machine crowded) ≡ Yes
+  commands_are_wide : AllNarrow commands
   -- the books of tile 0's sender: 1 credit and 2 messages are 2 credits and 1 reply
   credits : (send_of (view end.machine.words 4)).cur_crd ≡ 1
   sent : end.ledger.sent 4 ≡ 2
   answered : end.ledger.answered 4 ≡ 1
   -- its receiver holds the second message alone, and the slot for replies the reply
-  first_slot : slot-at-end 71 0 ≡ nothing
-  second-slot : slot-at-end 71 1 ≡ request 4
-  reply-slot : slot-at-end 6 0 ≡ reply
+  first_slot : slot_at_end 71 0 ≡ nothing
+  second_slot : slot_at_end 71 1 ≡ request 4
+  reply_slot : slot_at_end 6 0 ≡ reply
   -- and a SEND of tile 1 to that slot finds it full
   full : answer_of end.machine (given 1 1 8 16 65535) ≡ Refused RecvNoSpace
 
 shown : Shown
-unfolding machine check slot-at-end board send_to receiver session crowded registers given commands end stored put_nth words_nth view fields_of endpoint_at upd ◌gives◌else◌ all search.first board_of in_word pages_allowed pages_of allowed start_of size_of bytes_of sizes_right acceptable acceptable_words good_table machine_right host_checks left left_by sharing.word_at sharing.set_at sharing.request_at sharing.request_good sharing.record_good sharing.sharing_good sharing.foreign sharing.crowded sharing.counted sharing.arrived sharing.taken noted opcode_of step_of command_of put_bit find_slot ◌above◌ free_slot unread_slot slot_named range_past range_bad filled fetched cleared first ◌then◌ ◌fails◌else◌ does ◌noting◌ ◌▸◌ ◌▸▸◌ send◌or◌gives◌ receive◌or◌gives◌ slot◌or◌gives◌ slot◌else◌gives◌ outcome written placed settled carried crosses_page outside local_at header_word header_bytes delivery.too_long delivery.message_checks delivery.far_checks delivery.fit_checks delivery.delivered delivery.arrival delivery.arrival_of delivery.slot_at delivery.message_to sending.last_checks sending.send_checks sending.sep_of sending.rsize_of sending.request sending.reply_to with_credits sending.reply_placed sending.credit_spent sending.send_writes sending.request_of sending.SEND replying.from_checks replying.credit_bad replying.reply_checks replying.response room_for replying.creditable replying.credited replying.credit_to replying.credit_returned replying.reply_gone replying.slot_freed replying.reply_writes replying.response_of replying.answer_of replying.REPLY fetching.fetch_writes fetching.FETCH bytes.part bytes.put bytes.bytes bytes.word bytes.header next run too_many sum share promised sender_sound clear_of apart_from apart_at range_sound receiver_sound endpoint_sound sound wiring_of
+unfolding machine check slot_at_end board send_to receiver session crowded registers given commands end stored put_nth words_nth view fields_of endpoint_at upd ◌gives◌else◌ all search.first board_of in_word pages_allowed pages_of allowed start_of size_of bytes_of sizes_right acceptable acceptable_words good_table machine_right host_checks left left_by sharing.word_at sharing.set_at sharing.request_at sharing.request_good sharing.record_good sharing.sharing_good sharing.foreign sharing.crowded sharing.counted sharing.arrived sharing.taken noted opcode_of step_of command_of put_bit find_slot ◌above◌ free_slot unread_slot slot_named range_past range_bad filled fetched cleared first ◌then◌ ◌fails◌else◌ does ◌noting◌ ◌▸◌ ◌▸▸◌ send◌or◌gives◌ receive◌or◌gives◌ slot◌or◌gives◌ slot◌else◌gives◌ outcome written placed settled carried crosses_page outside local_at header_word header_bytes delivery.too_long delivery.message_checks delivery.far_checks delivery.fit_checks delivery.delivered delivery.arrival delivery.arrival_of delivery.slot_at delivery.message_to sending.last_checks sending.send_checks sending.sep_of sending.rsize_of sending.request sending.reply_to with_credits sending.reply_placed sending.credit_spent sending.send_writes sending.request_of sending.SEND replying.from_checks replying.credit_bad replying.reply_checks replying.response room_for replying.creditable replying.credited replying.credit_to replying.credit_returned replying.reply_gone replying.slot_freed replying.reply_writes replying.response_of replying.answer_of replying.REPLY fetching.fetch_writes fetching.FETCH bytes.part bytes.put bytes.bytes bytes.word bytes.header next run too_many sum share promised sender_sound clear_of apart_from apart_at range_sound receiver_sound endpoint_sound sound wiring_of
 shown =
     record {
-      session-is-sound = refl;
-      too-many-is-not = refl;
-      crowded-is-sound = refl;
-      commands-are-wide = (wide 0 1 4 16 6 (lit< tt) (lit< tt), (wide 0 1 4 16 65535 (lit< tt) (lit< tt), (wide 1 5 7 0 0 (lit< tt) (lit< tt), (wide 1 2 7 16 0 (lit< tt) (lit< tt), tt))));
+      session_is_sound = refl;
+      too_many_is_not = refl;
+      crowded_is_sound = refl;
+      commands_are_wide = (wide 0 1 4 16 6 (lit< tt) (lit< tt), (wide 0 1 4 16 65535 (lit< tt) (lit< tt), (wide 1 5 7 0 0 (lit< tt) (lit< tt), (wide 1 2 7 16 0 (lit< tt) (lit< tt), tt))));
       credits = refl;
       sent = refl;
       answered = refl;
       first_slot = refl;
-      second-slot = refl;
-      reply-slot = refl;
+      second_slot = refl;
+      reply_slot = refl;
       full = refl;
     }

@@ -93,12 +93,12 @@ pub send≢other : {N : Net} {s a : ℕ} → Gives N s a → (q : ℕ) → N.sha
 send≢other G q o e = clash (cc G.is)
 
 -- a receiver's fields are those of its shape
-pub same-rpl : {N : Net} {r p k p' k' : ℕ} → Takes N r p k → Takes N r p' k' → p ≡ p'
-same-rpl R R' = cc (R.is, R'.is)
+pub same_rpl : {N : Net} {r p k p' k' : ℕ} → Takes N r p k → Takes N r p' k' → p ≡ p'
+same_rpl R R' = cc (R.is, R'.is)
 
-pub same-slots : {N : Net} {r p k p' k' : ℕ} → Takes N r p k → Takes N r p' k' → k ≡ k'
-same-slots R R' = cc (R.is, R'.is)
+pub same_slots : {N : Net} {r p k p' k' : ℕ} → Takes N r p k → Takes N r p' k' → k ≡ k'
+same_slots R R' = cc (R.is, R'.is)
 
 -- what stands in the reply range matters only where there is one
-pub slot-x : {N : Net} {r p : ℕ} {x y : Endpoint} {b : Bool} {h : Held} → (p ≢ 65535 → x ≡ y) → Slot N r p y b h → Slot N r p x b h
-slot-x e s = record { real = s.real; from = s.from; link = λ d f q. s.link d f (sym (e d) ∙ q) }
+pub slot_x : {N : Net} {r p : ℕ} {x y : Endpoint} {b : Bool} {h : Held} → (p ≢ 65535 → x ≡ y) → Slot N r p y b h → Slot N r p x b h
+slot_x e s = record { real = s.real; from = s.from; link = λ d f q. s.link d f (sym (e d) ∙ q) }

@@ -9,7 +9,7 @@ use Rattle.bits.specs.Bits.{has_bit, put_bit}
 use Rattle.bits.specs.Slots.{find_slot}
 use Rattle.bits.specs.declared.Found.{Found}
 use Rattle.bits.specs.declared.Found.TheVariants.{At, Nothing}
-use Rattle.bits.proofs.BitLaws.{has-put-same, has-put-other}
+use Rattle.bits.proofs.BitLaws.{has_put_same, has_put_other}
 use Rattle.bits.proofs.SlotLaws.{Outcome, outcome}
 use Rattle.endpoint.specs.declared.ReceiveFields.{ReceiveFields}
 use Rattle.slots.specs.Slots.{slots_of, free_slot}
@@ -23,16 +23,16 @@ no_bits i = rw (zero-div (2 ^ i))
 
 module _ (m i : ℕ) where
   pub set_here : has_bit (put_bit m i 1) i ≡ true
-  set_here = has-put-same m i 1 (lit< tt)
+  set_here = has_put_same m i 1 (lit< tt)
 
-  pub clear-here : has_bit (put_bit m i 0) i ≡ false
-  clear-here = has-put-same m i 0 (lit< tt)
+  pub clear_here : has_bit (put_bit m i 0) i ≡ false
+  clear_here = has_put_same m i 0 (lit< tt)
 
   pub set_there : (j : ℕ) → j ≢ i → has_bit (put_bit m i 1) j ≡ has_bit m j
-  set_there j d = has-put-other m i j 1 (lit< tt) (λ e. d (sym e))
+  set_there j d = has_put_other m i j 1 (lit< tt) (λ e. d (sym e))
 
-  pub clear-there : (j : ℕ) → j ≢ i → has_bit (put_bit m i 0) j ≡ has_bit m j
-  clear-there j d = has-put-other m i j 0 (lit< tt) (λ e. d (sym e))
+  pub clear_there : (j : ℕ) → j ≢ i → has_bit (put_bit m i 0) j ≡ has_bit m j
+  clear_there j d = has_put_other m i j 0 (lit< tt) (λ e. d (sym e))
 
 -- ---- the search
 module _ (g : ReceiveFields) (turn : g.wpos ≤ slots_of g) where
@@ -41,12 +41,12 @@ module _ (g : ReceiveFields) (turn : g.wpos ≤ slots_of g) where
     pub low : next_slot g < slots_of g
     pub free : has_bit g.occupied (next_slot g) ≡ false
 
-  pub next-free : is_nothing (free_slot g) ≡ false → Free
+  pub next_free : is_nothing (free_slot g) ≡ false → Free
   unfolding free_slot
-  next-free h = go (find_slot g.occupied g.wpos g.slots false) refl (outcome g.occupied g.wpos g.slots false turn) h
+  next_free h = go (find_slot g.occupied g.wpos g.slots false) refl (outcome g.occupied g.wpos g.slots false turn) h
     where
       go : (x : Found) → free_slot g ≡ x → Outcome g.occupied g.wpos g.slots false x → is_nothing x ≡ false → Free
-      go (At s far) e o h = record { low = rw e o.below; free = rw e o.wanted-bit }
+      go (At s far) e o h = record { low = rw e o.below; free = rw e o.wanted_bit }
       go Nothing e o h = clash (cc)
 
   -- where none was found, every slot is occupied

@@ -16,7 +16,7 @@ use Rattle.endpoint.specs.declared.ReceiveFields.{ReceiveFields}
 use Rattle.endpoint.specs.declared.MemoryFields.{MemoryFields}
 use Rattle.endpoint.specs.declared.Endpoint.{Endpoint}
 use Rattle.endpoint.specs.declared.Endpoint.TheVariants.{Invalid, Send, Receive, Memory}
-use Rattle.endpoint.proofs.EndpointLaws.{flag-lt}
+use Rattle.endpoint.proofs.EndpointLaws.{flag_lt}
 use Rattle.lists.specs.Fields.{field_values, send_at, receive_at, memory_at, read_list, names, nothing, same_list, endpoint_of}
 use Rattle.lists.specs.Inverse.{Inverse}
 use Rattle.lists.proofs.ListLaws.{same_true, true_same}
@@ -27,28 +27,28 @@ unfolding read_list ◌gives◌else◌
 read_fits l = go (eqb (get_or l 0 0) 1) (eqb (get_or l 0 0) 2) (eqb (get_or l 0 0) 3)
   where
     go : (a b c : Bool) → All (fits (a gives Send (send_at l) else b gives Receive (receive_at l) else c gives Memory (memory_at l) else Invalid))
-    go true b c = omega (arith, flag-lt (eqb (get_or l 6 0) 1))
+    go true b c = omega (arith, flag_lt (eqb (get_or l 6 0) 1))
     go false true c = omega arith
     go false false true = omega arith
     go false false false = tt
 
-flag-back : (b : Bool) → eqb (flag b) 1 ≡ b
-flag-back true = refl
-flag-back false = refl
+flag_back : (b : Bool) → eqb (flag b) 1 ≡ b
+flag_back true = refl
+flag_back false = refl
 
 -- a value that its bits hold is not cut
 abbrev kept : ℕ → ℕ → Test
 kept bits x = equal (x % 2 ^ bits) x
 
-send-kept : (s : SendFields) → All (fits (Send s))
+send_kept : (s : SendFields) → All (fits (Send s))
     → All (kept 16 s.act ∷ kept 6 s.cur_crd ∷ kept 6 s.max_crd ∷ kept 6 s.msg_sz ∷ kept 16 s.crd_ep ∷ kept 16 s.tgt_ep ∷ kept 8 s.tgt_tile
     ∷ kept 6 s.tgt_chip ∷ kept 64 s.label ∷ [])
-send-kept s h = omega arith
+send_kept s h = omega arith
 
-receive-kept : (r : ReceiveFields) → All (fits (Receive r))
+receive_kept : (r : ReceiveFields) → All (fits (Receive r))
     → All (kept 16 r.act ∷ kept 16 r.rpl_eps ∷ kept 6 r.slots ∷ kept 6 r.slot_size ∷ kept 6 r.wpos ∷ kept 6 r.rpos ∷ kept 64 r.buffer
     ∷ kept 32 r.occupied ∷ kept 32 r.unread ∷ [])
-receive-kept r h = omega arith
+receive_kept r h = omega arith
 
 memory_kept : (x : MemoryFields) → All (fits (Memory x))
     → All (kept 16 x.act ∷ kept 2 x.rw ∷ kept 8 x.tile ∷ kept 6 x.chip ∷ kept 64 x.addr ∷ kept 64 x.size ∷ [])
@@ -58,7 +58,7 @@ read_back : (e : Endpoint) → All (fits e) → read_list (field_values e) ≡ e
 unfolding read_list ◌gives◌else◌
 read_back Invalid h = refl
 read_back (Send s) h =
-    let p = send-kept s h in
+    let p = send_kept s h in
     let q = p.1.1.1.1.1 in
     (λ i. Send (record {
       act = p.0 i;
@@ -66,14 +66,14 @@ read_back (Send s) h =
       max_crd = p.1.1.0 i;
       msg_sz = p.1.1.1.0 i;
       crd_ep = p.1.1.1.1.0 i;
-      reply = flag-back s.reply i;
+      reply = flag_back s.reply i;
       tgt_ep = q.0 i;
       tgt_tile = q.1.0 i;
       tgt_chip = q.1.1.0 i;
       label = q.1.1.1.0 i;
     }))
 read_back (Receive r) h =
-    let p = receive-kept r h in
+    let p = receive_kept r h in
     let q = p.1.1.1.1.1 in
     (λ i. Receive (record {
       act = p.0 i;
@@ -103,16 +103,16 @@ eleven (Send s) = refl
 eleven (Receive r) = refl
 eleven (Memory x) = refl
 
-named-from : (b : Bool) (x e : Endpoint) → (b gives names x else nothing) ≡ names e → (b ≡ true) × (x ≡ e)
+named_from : (b : Bool) (x e : Endpoint) → (b gives names x else nothing) ≡ names e → (b ≡ true) × (x ≡ e)
 unfolding ◌gives◌else◌
-named-from true x e h = (refl, cc)
-named-from false x e h = let z : ◌≡◌ {A = ℕ} 0 1 = cc in absurd (omega arith)
+named_from true x e h = (refl, cc)
+named_from false x e h = let z : ◌≡◌ {A = ℕ} 0 1 = cc in absurd (omega arith)
 
 pub inverse : Inverse
 unfolding endpoint_of ◌gives◌else◌
 inverse l e = (
   (λ h.
-      let p = named-from (same_list (field_values (read_list l)) l) (read_list l) e h in
+      let p = named_from (same_list (field_values (read_list l)) l) (read_list l) e h in
       rw (← p.1) (same_true (field_values (read_list l)) l p.0, read_fits l)),
   (λ h. rw (← h.0, read_back e h.1, true_same (field_values e))),
 )

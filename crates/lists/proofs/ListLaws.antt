@@ -9,15 +9,15 @@ use borrow.Author.Tests.{eqb-true, eq-eqb}
 use lib.Dec.{eqb}
 use lib.ListN.{length, get_or, set}
 use lib.Seq.{get_or-set_same, get_or-set_other}
-use Rattle.numbers.proofs.TestLaws.{split-and}
+use Rattle.numbers.proofs.TestLaws.{split_and}
 use Rattle.numbers.specs.Choice.{◌gives◌else◌}
 use Rattle.endpoint.specs.declared.Endpoint.{Endpoint}
 use Rattle.lists.specs.Fields.{field_values, read_list, names, nothing, same_list, endpoint_of}
 
 -- one more number stored
-pub stored-below : (l v : List ℕ) (i : ℕ) → i < length l → ((k : ℕ) → k < i → get_or l k 0 ≡ get_or v k 0) → (k : ℕ) → k < i + 1
+pub stored_below : (l v : List ℕ) (i : ℕ) → i < length l → ((k : ℕ) → k < i → get_or l k 0 ≡ get_or v k 0) → (k : ℕ) → k < i + 1
     → get_or (set l i (get_or v i 0)) k 0 ≡ get_or v k 0
-stored-below l v i h below =
+stored_below l v i h below =
     below_more _ _ (λ k b. get_or-set_other l i k (get_or v i 0) 0 (omega arith) ∙ below k b) (get_or-set_same l i (get_or v i 0) 0 h)
 
 -- ---- two lists are the same
@@ -27,7 +27,7 @@ same_true [] [] h = refl
 same_true [] (y ∷ l) h = absurd (false≢true h)
 same_true (x ∷ k) [] h = absurd (false≢true h)
 same_true (x ∷ k) (y ∷ l) h =
-    let p = split-and (eqb x y) (same_list k l) h in
+    let p = split_and (eqb x y) (same_list k l) h in
     let e : x ≡ y = eqb-true x y p.0 in
     let r : k ≡ l = same_true k l p.1 in
     cc

@@ -7,7 +7,7 @@ use mathlib.Core.Path.{◌≡◌, refl}
 use native.Mathlib.Omega.{arith}
 use lib.Dec.{eqb}
 use borrow.Author.Tests.{ltb-false, le-ltb, eqb-true, eqb-false, ne_eqb, leb-false, not-false}
-use Rattle.numbers.proofs.TestLaws.{split-and}
+use Rattle.numbers.proofs.TestLaws.{split_and}
 use Rattle.answers.specs.declared.Answer.TheVariants.{None}
 use Rattle.bits.specs.declared.Found.{Found}
 use Rattle.bits.specs.declared.Found.TheVariants.{At, Nothing}
@@ -20,7 +20,7 @@ use Rattle.endpoint.specs.declared.Endpoint.{Endpoint}
 use Rattle.endpoint.specs.declared.Endpoint.TheVariants.{Send}
 use Rattle.table.specs.Table.{Table, place, endpoint_at, view, upd}
 use Rattle.table.specs.Good.{memory_at}
-use Rattle.table.proofs.TableLaws.{good-at, upd-at, upd-off}
+use Rattle.table.proofs.TableLaws.{good_at, upd_at, upd_off}
 use Rattle.sharing.specs.Sharing.{own_of}
 use Rattle.sharing.specs.declared.Note.TheVariants.{Read}
 use Rattle.slots.specs.Slots.{unread_slot, slot_named}
@@ -30,7 +30,7 @@ use Rattle.command.specs.Narrow.{Narrow}
 use Rattle.command.specs.Outcome.{outcome, tabled}
 use Rattle.command.specs.declared.Registers.{Registers}
 use Rattle.command.proofs.CheckFacts.{passed}
-use Rattle.command.proofs.WriteLaws.{by_answer, carried-refused, settled-accepted}
+use Rattle.command.proofs.WriteLaws.{by_answer, carried_refused, settled_accepted}
 use Rattle.access.specs.Access.{READ, WRITE}
 use Rattle.delivery.specs.Delivery.{delivered, arrival}
 use Rattle.messages.specs.Send.{reply_to, reply_placed, credit_spent, send_writes, request_of, SEND}
@@ -43,8 +43,8 @@ use Rattle.receive.specs.Ack.{ack_writes, ACK_MSG}
 use Rattle.machine.specs.Machine.{Opcode, op_idle, op_send, op_reply, op_read, op_write, op_fetch, op_ack, op_other, opcode_of, step_of, machine_right, host_checks, command_of, invalidate_of, privileged_of, respond_of}
 use Rattle.machine.specs.Kept.{Follows}
 use Rattle.machine.specs.Capped.{Capped, Caps, EveryCommandCaps}
-use Rattle.machine.proofs.Fitting.{stands_at, sends, credits-lt}
-use Rattle.machine.proofs.Kept.{held, rest-passed, follows}
+use Rattle.machine.proofs.Fitting.{stands_at, sends, credits_lt}
+use Rattle.machine.proofs.Kept.{held, rest_passed, follows}
 use Rattle.machine.proofs.PrivilegedLaws.{one_of_three}
 
 -- ---- one write
@@ -69,7 +69,7 @@ returned : (x y : Endpoint) (rep : ℕ) → not (eqb rep 65535) && creditable y 
 unfolding creditable credited with_credits
 returned x y rep h =
     let s = send_of y in
-    let r = has_room s (split-and (is_send y) (room_for s) (split-and (not (eqb rep 65535)) (is_send y && room_for s) h).1).1 in
+    let r = has_room s (split_and (is_send y) (room_for s) (split_and (not (eqb rep 65535)) (is_send y && room_for s) h).1).1 in
     record {
       limited = λ _. ne_eqb (s.cur_crd + 1) 63 (omega (arith, r.1.0));
       within = λ _. le-ltb s.max_crd (s.cur_crd + 1) (omega (arith, r.0));
@@ -83,99 +83,99 @@ AllCapped t ((b ⇐ e to q) ∷ l) = (b ≡ true → Capped (t q) e) × AllCappe
 same : (x : Endpoint) → Capped x x
 same x = record { limited = λ h. h; within = λ h. h }
 
-tabled-capped : (t u : Table) (l : List Write) → AllCapped t l → ((q : ℕ) → Capped (t q) (u q)) → (q : ℕ) → Capped (t q) (tabled u l q)
+tabled_capped : (t u : Table) (l : List Write) → AllCapped t l → ((q : ℕ) → Capped (t q) (u q)) → (q : ℕ) → Capped (t q) (tabled u l q)
 unfolding tabled
-tabled-capped t u [] c h = h
-tabled-capped t u ((false ⇐ e to p) ∷ l) c h = tabled-capped t u l c.1 h
-tabled-capped t u ((true ⇐ e to p) ∷ l) c h = tabled-capped t (upd u p e) l c.1 (λ q. go q (eqb q p) refl)
+tabled_capped t u [] c h = h
+tabled_capped t u ((false ⇐ e to p) ∷ l) c h = tabled_capped t u l c.1 h
+tabled_capped t u ((true ⇐ e to p) ∷ l) c h = tabled_capped t (upd u p e) l c.1 (λ q. go q (eqb q p) refl)
   where
     go : (q : ℕ) (b : Bool) → eqb q p ≡ b → Capped (t q) (upd u p e q)
-    go q true i = let j = eqb-true q p i in rw (upd-at u p e q j, j) (c.0 refl)
-    go q false i = rw (upd-off u p e q (eqb-false q p i)) (h q)
+    go q true i = let j = eqb-true q p i in rw (upd_at u p e q j, j) (c.0 refl)
+    go q false i = rw (upd_off u p e q (eqb-false q p i)) (h q)
 
 -- ---- each command
 module _ (b : Board) (t : Table) (good : (q : ℕ) → q < b.tiles * 64 → acceptable (memory_at b q) (t q) ≡ true) (tile ep : ℕ) (on : tile < b.tiles) where
   -- check 0: the endpoint sends
-  send-caps : (sh bs : List ℕ) (own : ℕ) (a : Registers) → first (SEND b t sh bs own tile ep a).checks ≡ None → AllCapped t (SEND b t sh bs own tile ep a).effect.writes
+  send_caps : (sh bs : List ℕ) (own : ℕ) (a : Registers) → first (SEND b t sh bs own tile ep a).checks ≡ None → AllCapped t (SEND b t sh bs own tile ep a).effect.writes
   unfolding SEND request_of delivered send_writes arrival reply_placed reply_to credit_spent ◌▸◌ ◌▸▸◌ does ◌noting◌ send◌or◌gives◌ receive◌or◌gives◌ slot◌or◌gives◌
-  send-caps sh bs own a h =
+  send_caps sh bs own a h =
       let is = not-false (is_send (endpoint_at t tile ep)) (passed (SEND b t sh bs own tile ep a).checks h 0) in
       let s = send_of (endpoint_at t tile ep) in
       let here = stands_at t tile ep is in
       let w = sends b t good tile ep on is in
-      ((λ _. mild _ _ refl), ((λ _. placed _ _ refl refl), ((λ _. spent (t (place tile ep)) s here (credits-lt _ s w.ok)), tt)))
+      ((λ _. mild _ _ refl), ((λ _. placed _ _ refl refl), ((λ _. spent (t (place tile ep)) s here (credits_lt _ s w.ok)), tt)))
 
-  reply-caps : (sh bs : List ℕ) (own : ℕ) (a : Registers) → AllCapped t (REPLY b t sh bs own tile ep a).effect.writes
+  reply_caps : (sh bs : List ℕ) (own : ℕ) (a : Registers) → AllCapped t (REPLY b t sh bs own tile ep a).effect.writes
   unfolding REPLY answer_of response_of delivered reply_writes arrival credit_to credit_returned response reply_gone slot_freed ◌▸◌ ◌▸▸◌ does ◌noting◌ send◌or◌gives◌ receive◌or◌gives◌ slot◌or◌gives◌
-  reply-caps sh bs own a =
+  reply_caps sh bs own a =
       let g = receive_of (endpoint_at t tile ep) in
       let s = send_of (endpoint_at t tile (g.rpl_eps + slot_named g a.arg0)) in
       ((λ _. mild _ _ refl), ((λ told. returned _ _ s.crd_ep told), ((λ _. mild _ _ refl), ((λ _. mild _ _ refl), tt))))
 
-  fetch-caps : (own : ℕ) → AllCapped t (FETCH t own tile ep).effect.writes
+  fetch_caps : (own : ℕ) → AllCapped t (FETCH t own tile ep).effect.writes
   unfolding FETCH fetch_writes ◌▸◌ does ◌noting◌ receive◌or◌gives◌ slot◌else◌gives◌
-  fetch-caps own = go (receive_of (endpoint_at t tile ep)) (unread_slot (receive_of (endpoint_at t tile ep)))
+  fetch_caps own = go (receive_of (endpoint_at t tile ep)) (unread_slot (receive_of (endpoint_at t tile ep)))
     where
       go : (r : ReceiveFields) (u : Found)
           → AllCapped t (slot u else does [] nothing 18446744073709551615 gives λ i. does (fetch_writes tile ep r i) nothing (i * 2 ^ r.slot_size) noting Read).effect.writes
       go r (At i d) = ((λ _. mild _ _ refl), tt)
       go r Nothing = tt
 
-  ack-caps : (own : ℕ) (a : Registers) → AllCapped t (ACK_MSG t own tile ep a).effect.writes
+  ack_caps : (own : ℕ) (a : Registers) → AllCapped t (ACK_MSG t own tile ep a).effect.writes
   unfolding ACK_MSG ack_writes ◌▸◌ ◌▸▸◌ does ◌noting◌ receive◌or◌gives◌
-  ack-caps own a = ((λ _. mild _ _ refl), ((λ _. mild _ _ refl), tt))
+  ack_caps own a = ((λ _. mild _ _ refl), ((λ _. mild _ _ refl), tt))
 
-  step-caps : (sh bs : List ℕ) (own : ℕ) (a : Registers) (op : Opcode) → first (step_of b t sh bs own tile op ep a).checks ≡ None → AllCapped t (step_of b t sh bs own tile op ep a).effect.writes
+  step_caps : (sh bs : List ℕ) (own : ℕ) (a : Registers) (op : Opcode) → first (step_of b t sh bs own tile op ep a).checks ≡ None → AllCapped t (step_of b t sh bs own tile op ep a).effect.writes
   unfolding step_of READ WRITE does ◌▸◌ ◌▸▸◌ memory◌or◌gives◌
-  step-caps sh bs own a op_idle h = tt
-  step-caps sh bs own a op_send h = send-caps sh bs own a h
-  step-caps sh bs own a op_reply h = reply-caps sh bs own a
-  step-caps sh bs own a op_read h = tt
-  step-caps sh bs own a op_write h = tt
-  step-caps sh bs own a op_fetch h = fetch-caps own
-  step-caps sh bs own a op_ack h = ack-caps own a
-  step-caps sh bs own a op_other h = tt
+  step_caps sh bs own a op_idle h = tt
+  step_caps sh bs own a op_send h = send_caps sh bs own a h
+  step_caps sh bs own a op_reply h = reply_caps sh bs own a
+  step_caps sh bs own a op_read h = tt
+  step_caps sh bs own a op_write h = tt
+  step_caps sh bs own a op_fetch h = fetch_caps own
+  step_caps sh bs own a op_ack h = ack_caps own a
+  step_caps sh bs own a op_other h = tt
 
 -- ---- any call: where it is refused nothing changes, and else the machine is right and the table follows the writes
-call-caps : (b : Board) (ws sh bs : List ℕ) (tile : ℕ) (k : Command) → (first k.checks ≡ None → machine_right b ws sh bs ≡ true) → Follows b ws sh bs tile k
+call_caps : (b : Board) (ws sh bs : List ℕ) (tile : ℕ) (k : Command) → (first k.checks ≡ None → machine_right b ws sh bs ≡ true) → Follows b ws sh bs tile k
     → (first k.checks ≡ None → AllCapped (view ws) k.effect.writes) → Caps ws bs k
 unfolding outcome
-call-caps b ws sh bs tile k right f caps x q =
+call_caps b ws sh bs tile k right f caps x q =
     by_answer (first k.checks)
-    (λ h. rw (f (right h) x, settled-accepted (λ e. view ws) (λ d. tabled (view ws) d.writes) k h) (tabled-capped (view ws) (view ws) k.effect.writes (caps h) (λ j. same (view ws j)) q))
-    (λ e h. rw (carried-refused x ws bs k e h) (same (view ws q)))
+    (λ h. rw (f (right h) x, settled_accepted (λ e. view ws) (λ d. tabled (view ws) d.writes) k h) (tabled_capped (view ws) (view ws) k.effect.writes (caps h) (λ j. same (view ws j)) q))
+    (λ e h. rw (carried_refused x ws bs k e h) (same (view ws q)))
 
 -- check 0 of each call is that the machine is right
 module _ (b : Board) (ws sh bs : List ℕ) (tile : ℕ) where
-  command-caps : (op ep : ℕ) (a : Registers) → Narrow a → Caps ws bs (command_of b ws sh bs tile op ep a)
+  command_caps : (op ep : ℕ) (a : Registers) → Narrow a → Caps ws bs (command_of b ws sh bs tile op ep a)
   unfolding command_of host_checks ◌▸▸◌ ◌then◌
-  command-caps op ep a narrow =
-      call-caps b ws sh bs tile (command_of b ws sh bs tile op ep a) right (follows.command b ws sh bs tile op ep a narrow)
+  command_caps op ep a narrow =
+      call_caps b ws sh bs tile (command_of b ws sh bs tile op ep a) right (follows.command b ws sh bs tile op ep a narrow)
       (λ h.
       let m = held b ws sh bs (right h) in
       let on = leb-false b.tiles tile (passed (command_of b ws sh bs tile op ep a).checks h 1) in
-      step-caps b (view ws) (good-at b ws m.good) tile ep on sh bs (own_of sh tile) a (opcode_of op) (rest-passed (host_checks b ws sh bs tile) _ h))
+      step_caps b (view ws) (good_at b ws m.good) tile ep on sh bs (own_of sh tile) a (opcode_of op) (rest_passed (host_checks b ws sh bs tile) _ h))
     where
       right : first (command_of b ws sh bs tile op ep a).checks ≡ None → machine_right b ws sh bs ≡ true
       right h = not-false (machine_right b ws sh bs) (passed (command_of b ws sh bs tile op ep a).checks h 0)
 
-  invalidate-caps : (ep : ℕ) → Caps ws bs (invalidate_of b ws sh bs tile ep)
+  invalidate_caps : (ep : ℕ) → Caps ws bs (invalidate_of b ws sh bs tile ep)
   unfolding invalidate_of host_checks ◌▸▸◌ ◌▸◌ ◌then◌ does
-  invalidate-caps ep =
-      call-caps b ws sh bs tile (invalidate_of b ws sh bs tile ep) (λ h. not-false (machine_right b ws sh bs) (passed (invalidate_of b ws sh bs tile ep).checks h 0))
+  invalidate_caps ep =
+      call_caps b ws sh bs tile (invalidate_of b ws sh bs tile ep) (λ h. not-false (machine_right b ws sh bs) (passed (invalidate_of b ws sh bs tile ep).checks h 0))
       (follows.invalidate b ws sh bs tile ep) (λ h. ((λ _. mild _ _ refl), tt))
 
-  privileged-caps : (op arg0 arg1 : ℕ) → Caps ws bs (privileged_of b ws sh bs tile op arg0 arg1)
+  privileged_caps : (op arg0 arg1 : ℕ) → Caps ws bs (privileged_of b ws sh bs tile op arg0 arg1)
   unfolding privileged_of host_checks ◌▸▸◌ ◌▸◌ ◌then◌ does ◌noting◌
-  privileged-caps op arg0 arg1 =
-      call-caps b ws sh bs tile (privileged_of b ws sh bs tile op arg0 arg1) (λ h. not-false (machine_right b ws sh bs) (passed (privileged_of b ws sh bs tile op arg0 arg1).checks h 0))
+  privileged_caps op arg0 arg1 =
+      call_caps b ws sh bs tile (privileged_of b ws sh bs tile op arg0 arg1) (λ h. not-false (machine_right b ws sh bs) (passed (privileged_of b ws sh bs tile op arg0 arg1).checks h 0))
       (follows.privileged b ws sh bs tile op arg0 arg1) (λ h. one_of_three (λ k. AllCapped (view ws) k.effect.writes) sh tile op arg0 arg1 tt tt tt)
 
-  respond-caps : Caps ws bs (respond_of b ws sh bs tile)
+  respond_caps : Caps ws bs (respond_of b ws sh bs tile)
   unfolding respond_of host_checks ◌▸▸◌ ◌then◌ does ◌noting◌
-  respond-caps =
-      call-caps b ws sh bs tile (respond_of b ws sh bs tile) (λ h. not-false (machine_right b ws sh bs) (passed (respond_of b ws sh bs tile).checks h 0))
+  respond_caps =
+      call_caps b ws sh bs tile (respond_of b ws sh bs tile) (λ h. not-false (machine_right b ws sh bs) (passed (respond_of b ws sh bs tile).checks h 0))
       (follows.respond b ws sh bs tile) (λ h. tt)
 
 pub caps : EveryCommandCaps
-caps = record { command = command-caps; invalidate = invalidate-caps; privileged = privileged-caps; respond = respond-caps }
+caps = record { command = command_caps; invalidate = invalidate_caps; privileged = privileged_caps; respond = respond_caps }

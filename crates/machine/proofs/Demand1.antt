@@ -8,10 +8,10 @@ use native.Mathlib.Omega.{arith}
 use lib.Dec.{eqb}
 use borrow.Author.Tests.{eqb-true, ne_eqb}
 use Rattle.numbers.specs.Choice.{◌gives◌else◌}
-use Rattle.numbers.proofs.TestLaws.{split-and}
+use Rattle.numbers.proofs.TestLaws.{split_and}
 use Rattle.answers.specs.Answers.{code_of}
 use Rattle.answers.specs.declared.Error.{Error}
-use Rattle.answers.proofs.AnswerLaws.{code-injective}
+use Rattle.answers.proofs.AnswerLaws.{code_injective}
 use Rattle.bits.specs.declared.Found.{Found}
 use Rattle.bits.specs.declared.Found.TheVariants.{At, Nothing}
 use Rattle.board.specs.declared.Board.{Board}
@@ -26,7 +26,7 @@ use Rattle.command.specs.Command.{Command, does, ◌noting◌, ◌▸◌, ◌▸
 use Rattle.command.specs.Outcome.{outcome, carried}
 use Rattle.command.specs.declared.Registers.{Registers}
 use Rattle.command.proofs.CheckFacts.{same}
-use Rattle.command.proofs.WriteLaws.{by_answer, carried-refused, carried-accepted}
+use Rattle.command.proofs.WriteLaws.{by_answer, carried_refused, carried_accepted}
 use Rattle.access.specs.Access.{permit_checks, remote_checks, range_checks, access_checks, READ, WRITE}
 use Rattle.receive.specs.Fetch.{FETCH}
 use Rattle.receive.specs.Ack.{ack_checks, ACK_MSG}
@@ -47,74 +47,74 @@ abbrev within : List Error → List Check → Bool
 within p [] = true
 within p ((b ⇒ e) ∷ l) = stands e p && within p l
 
-stands-in : (e : Error) (p : List Error) → stands e p ≡ true → Memᴰ e p
-stands-in e [] h = let z : ◌≡◌ {A = ℕ} 0 1 = cc in absurd (omega arith)
-stands-in e (d ∷ p) h = go (same e d) refl h (stands-in e p)
+stands_in : (e : Error) (p : List Error) → stands e p ≡ true → Memᴰ e p
+stands_in e [] h = let z : ◌≡◌ {A = ℕ} 0 1 = cc in absurd (omega arith)
+stands_in e (d ∷ p) h = go (same e d) refl h (stands_in e p)
   where
     go : (t : Bool) → same e d ≡ t → cond t true (stands e p) ≡ true → (stands e p ≡ true → Memᴰ e p) → Memᴰ e (d ∷ p)
-    go true q h next = Memᴰ.head (code-injective e d (eqb-true (code_of e) (code_of d) q))
+    go true q h next = Memᴰ.head (code_injective e d (eqb-true (code_of e) (code_of d) q))
     go false q h next = Memᴰ.tail (next h)
 
-first-from : (p : List Error) (l : List Check) → within p l ≡ true → From p (first l)
+first_from : (p : List Error) (l : List Check) → within p l ≡ true → From p (first l)
 unfolding first
-first-from p [] h = tt
-first-from p ((true ⇒ e) ∷ l) h = stands-in e p (split-and (stands e p) (within p l) h).0
-first-from p ((false ⇒ e) ∷ l) h = first-from p l (split-and (stands e p) (within p l) h).1
+first_from p [] h = tt
+first_from p ((true ⇒ e) ∷ l) h = stands_in e p (split_and (stands e p) (within p l) h).0
+first_from p ((false ⇒ e) ∷ l) h = first_from p l (split_and (stands e p) (within p l) h).1
 
 -- one list after another, a choice between two, and a search that leads to one of two commands
 module _ (p : List Error) where
-  within-then : (l k : List Check) → within p l ≡ true → within p k ≡ true → within p (l then k) ≡ true
+  within_then : (l k : List Check) → within p l ≡ true → within p k ≡ true → within p (l then k) ≡ true
   unfolding ◌then◌
-  within-then [] k h i = i
-  within-then ((b ⇒ e) ∷ l) k h i =
-      let d = split-and (stands e p) (within p l) h in
-      rw d.0 (within-then l k d.1 i)
+  within_then [] k h i = i
+  within_then ((b ⇒ e) ∷ l) k h i =
+      let d = split_and (stands e p) (within p l) h in
+      rw d.0 (within_then l k d.1 i)
 
-  within-choice : (t : Bool) (l k : List Check) → within p l ≡ true → within p k ≡ true → within p (t gives l else k) ≡ true
+  within_choice : (t : Bool) (l k : List Check) → within p l ≡ true → within p k ≡ true → within p (t gives l else k) ≡ true
   unfolding ◌gives◌else◌
-  within-choice true l k h i = h
-  within-choice false l k h i = i
+  within_choice true l k h i = h
+  within_choice false l k h i = i
 
-  within-slot : (x : Found) (k : Command) (f : ℕ → Command) → within p k.checks ≡ true → ((i : ℕ) → within p (f i).checks ≡ true)
+  within_slot : (x : Found) (k : Command) (f : ℕ → Command) → within p k.checks ≡ true → ((i : ℕ) → within p (f i).checks ≡ true)
       → within p (slot x else k gives f).checks ≡ true
   unfolding slot◌else◌gives◌
-  within-slot (At i d) k f h g = g i
-  within-slot Nothing k f h g = h
+  within_slot (At i d) k f h g = g i
+  within_slot Nothing k f h g = h
 
 -- ---- each command's refusals stand in its list, by computation
-access-within : (b : Board) (own tile : ℕ) (missing : Bool) (m : MemoryFields) (a : Registers) → within (host_refusals ++ access_refusals) (access_checks b own tile missing m a then []) ≡ true
+access_within : (b : Board) (own tile : ℕ) (missing : Bool) (m : MemoryFields) (a : Registers) → within (host_refusals ++ access_refusals) (access_checks b own tile missing m a then []) ≡ true
 unfolding access_checks permit_checks range_checks remote_checks ◌then◌
-access-within b own tile missing m a =
+access_within b own tile missing m a =
     let p = host_refusals ++ access_refusals in
-    within-then p (access_checks b own tile missing m a) [] (within-choice p (eqb a.size 0) [] (range_checks b tile m a) refl refl) refl
+    within_then p (access_checks b own tile missing m a) [] (within_choice p (eqb a.size 0) [] (range_checks b tile m a) refl refl) refl
 
-step-within : (b : Board) (t : Table) (sh bs : List ℕ) (own tile : ℕ) (op : Opcode) (ep : ℕ) (a : Registers) → within (host_refusals ++ refusals_of op) (step_of b t sh bs own tile op ep a).checks ≡ true
+step_within : (b : Board) (t : Table) (sh bs : List ℕ) (own tile : ℕ) (op : Opcode) (ep : ℕ) (a : Registers) → within (host_refusals ++ refusals_of op) (step_of b t sh bs own tile op ep a).checks ≡ true
 unfolding step_of SEND request_of send_checks message_checks last_checks delivered far_checks fit_checks REPLY answer_of response_of from_checks reply_checks READ WRITE FETCH ACK_MSG ack_checks ◌then◌ ◌▸◌ ◌▸▸◌ does ◌noting◌ send◌or◌gives◌ receive◌or◌gives◌ memory◌or◌gives◌ slot◌or◌gives◌
-step-within b t sh bs own tile op_idle ep a = refl
-step-within b t sh bs own tile op_send ep a = refl
-step-within b t sh bs own tile op_reply ep a = refl
-step-within b t sh bs own tile op_read ep a = let m = memory_of (endpoint_at t tile ep) in access-within b own tile (eqb (m.rw % 2) 0) m a
-step-within b t sh bs own tile op_write ep a = let m = memory_of (endpoint_at t tile ep) in access-within b own tile (eqb (m.rw / 2 % 2) 0) m a
-step-within b t sh bs own tile op_fetch ep a = within-slot (host_refusals ++ refusals_of op_fetch) (unread_slot (receive_of (endpoint_at t tile ep))) _ _ refl (λ i. refl)
-step-within b t sh bs own tile op_ack ep a = refl
-step-within b t sh bs own tile op_other ep a = refl
+step_within b t sh bs own tile op_idle ep a = refl
+step_within b t sh bs own tile op_send ep a = refl
+step_within b t sh bs own tile op_reply ep a = refl
+step_within b t sh bs own tile op_read ep a = let m = memory_of (endpoint_at t tile ep) in access_within b own tile (eqb (m.rw % 2) 0) m a
+step_within b t sh bs own tile op_write ep a = let m = memory_of (endpoint_at t tile ep) in access_within b own tile (eqb (m.rw / 2 % 2) 0) m a
+step_within b t sh bs own tile op_fetch ep a = within_slot (host_refusals ++ refusals_of op_fetch) (unread_slot (receive_of (endpoint_at t tile ep))) _ _ refl (λ i. refl)
+step_within b t sh bs own tile op_ack ep a = refl
+step_within b t sh bs own tile op_other ep a = refl
 
-privileged-within : (sh : List ℕ) (tile op arg0 arg1 : ℕ) → within privileged_refusals (privileged_step sh tile op arg0 arg1).checks ≡ true
+privileged_within : (sh : List ℕ) (tile op arg0 arg1 : ℕ) → within privileged_refusals (privileged_step sh tile op arg0 arg1).checks ≡ true
 unfolding ◌▸◌ does ◌noting◌
-privileged-within sh tile op arg0 arg1 = one_of_three (λ k. within privileged_refusals k.checks ≡ true) sh tile op arg0 arg1 refl refl refl
+privileged_within sh tile op arg0 arg1 = one_of_three (λ k. within privileged_refusals k.checks ≡ true) sh tile op arg0 arg1 refl refl refl
 
 -- ---- any command: what it settles to
 module _ (x : ℕ) (ws bs : List ℕ) (k : Command) where
   pub answered : (carried x ws bs k).completion.answer ≡ first k.checks
   unfolding outcome
-  answered = by_answer (first k.checks) (λ h. rw (carried-accepted x ws bs k h, h)) (λ e h. rw (carried-refused x ws bs k e h, h))
+  answered = by_answer (first k.checks) (λ h. rw (carried_accepted x ws bs k h, h)) (λ e h. rw (carried_refused x ws bs k e h, h))
 
   settles : (sh : List ℕ) (tile : ℕ) (l : List Error) → within l k.checks ≡ true → Settles x ws sh bs tile l k
   unfolding outcome left left_by noted
   settles sh tile l h =
       record {
-        listed = rw answered (first-from l k.checks h);
-        unchanged = λ e q. ap (left_by sh tile) (carried-refused x ws bs k e (sym answered ∙ q));
+        listed = rw answered (first_from l k.checks h);
+        unchanged = λ e q. ap (left_by sh tile) (carried_refused x ws bs k e (sym answered ∙ q));
         only = λ r s v w p q c d e f.
             let same = e ∙ sym f in
             (ap (λ (o : Left). o.completion) same, ap (λ (o : Left). o.words) same, ap (λ (o : Left). o.sharing) same, ap (λ (o : Left). o.bytes) same);
@@ -132,9 +132,9 @@ is_fetch op_ack = false
 is_fetch op_other = false
 
 -- every opcode but 5 is another's
-other-opcode : (op : ℕ) → (op ≡ 5 → ⊥) → is_fetch (opcode_of op) ≡ false
+other_opcode : (op : ℕ) → (op ≡ 5 → ⊥) → is_fetch (opcode_of op) ≡ false
 unfolding opcode_of ◌gives◌else◌
-other-opcode op d = rw (ne_eqb op 5 d) (go (eqb op 0) (eqb op 1) (eqb op 2) (eqb op 3) (eqb op 4) (eqb op 6))
+other_opcode op d = rw (ne_eqb op 5 d) (go (eqb op 0) (eqb op 1) (eqb op 2) (eqb op 3) (eqb op 4) (eqb op 6))
   where
     go : (t₀ t₁ t₂ t₃ t₄ t₆ : Bool)
         → is_fetch (t₀ gives op_idle else t₁ gives op_send else t₂ gives op_reply else t₃ gives op_read else t₄ gives op_write else t₆ gives op_ack else op_other) ≡ false
@@ -146,30 +146,30 @@ other-opcode op d = rw (ne_eqb op 5 d) (go (eqb op 0) (eqb op 1) (eqb op 2) (eqb
     go false false false false false true = refl
     go false false false false false false = refl
 
-hands-back : (b : Board) (t : Table) (sh bs : List ℕ) (own tile : ℕ) (op : Opcode) (ep : ℕ) (a : Registers) → is_fetch op ≡ false → (step_of b t sh bs own tile op ep a).effect.hands ≡ a.arg1
+hands_back : (b : Board) (t : Table) (sh bs : List ℕ) (own tile : ℕ) (op : Opcode) (ep : ℕ) (a : Registers) → is_fetch op ≡ false → (step_of b t sh bs own tile op ep a).effect.hands ≡ a.arg1
 unfolding step_of SEND request_of delivered REPLY answer_of response_of READ WRITE ACK_MSG ◌▸◌ ◌▸▸◌ does ◌noting◌ send◌or◌gives◌ receive◌or◌gives◌ memory◌or◌gives◌ slot◌or◌gives◌
-hands-back b t sh bs own tile op_idle ep a h = refl
-hands-back b t sh bs own tile op_send ep a h = refl
-hands-back b t sh bs own tile op_reply ep a h = refl
-hands-back b t sh bs own tile op_read ep a h = refl
-hands-back b t sh bs own tile op_write ep a h = refl
-hands-back b t sh bs own tile op_fetch ep a h = let z : ◌≡◌ {A = ℕ} 0 1 = cc in absurd (omega arith)
-hands-back b t sh bs own tile op_ack ep a h = refl
-hands-back b t sh bs own tile op_other ep a h = refl
+hands_back b t sh bs own tile op_idle ep a h = refl
+hands_back b t sh bs own tile op_send ep a h = refl
+hands_back b t sh bs own tile op_reply ep a h = refl
+hands_back b t sh bs own tile op_read ep a h = refl
+hands_back b t sh bs own tile op_write ep a h = refl
+hands_back b t sh bs own tile op_fetch ep a h = let z : ◌≡◌ {A = ℕ} 0 1 = cc in absurd (omega arith)
+hands_back b t sh bs own tile op_ack ep a h = refl
+hands_back b t sh bs own tile op_other ep a h = refl
 
-pub arg1-back : (x : ℕ) (ws bs : List ℕ) (k : Command) → k.effect.hands ≡ x → (carried x ws bs k).completion.arg1 ≡ x
+pub arg1_back : (x : ℕ) (ws bs : List ℕ) (k : Command) → k.effect.hands ≡ x → (carried x ws bs k).completion.arg1 ≡ x
 unfolding outcome
-arg1-back x ws bs k h = by_answer (first k.checks) (λ e. rw (carried-accepted x ws bs k e) h) (λ d e. rw (carried-refused x ws bs k d e))
+arg1_back x ws bs k h = by_answer (first k.checks) (λ e. rw (carried_accepted x ws bs k e) h) (λ d e. rw (carried_refused x ws bs k d e))
 
 -- ---- the demand
-pub demand-1 : Demand1
+pub demand_1 : Demand1
 unfolding command_of configure_of invalidate_of privileged_of respond_of host_checks ◌▸▸◌ ◌▸◌ ◌then◌ does ◌noting◌
-demand-1 =
+demand_1 =
     record {
-      command = λ b ws sh bs tile op ep a. settles a.arg1 ws bs _ sh tile (host_refusals ++ refusals_of (opcode_of op)) (step-within b (view ws) sh bs (own_of sh tile) tile (opcode_of op) ep a);
+      command = λ b ws sh bs tile op ep a. settles a.arg1 ws bs _ sh tile (host_refusals ++ refusals_of (opcode_of op)) (step_within b (view ws) sh bs (own_of sh tile) tile (opcode_of op) ep a);
       configure = λ b ws sh bs tile ep w x. settles x ws bs _ sh tile configure_refusals refl;
       invalidate = λ b ws sh bs tile ep x. settles x ws bs _ sh tile invalidate_refusals refl;
-      privileged = λ b ws sh bs tile op arg0 arg1. settles arg1 ws bs _ sh tile privileged_refusals (privileged-within sh tile op arg0 arg1);
+      privileged = λ b ws sh bs tile op arg0 arg1. settles arg1 ws bs _ sh tile privileged_refusals (privileged_within sh tile op arg0 arg1);
       respond = λ b ws sh bs tile x. settles x ws bs _ sh tile host_refusals refl;
-      arg1-back = λ b ws sh bs tile op ep a d. arg1-back a.arg1 ws bs _ (hands-back b (view ws) sh bs (own_of sh tile) tile (opcode_of op) ep a (other-opcode op d));
+      arg1_back = λ b ws sh bs tile op ep a d. arg1_back a.arg1 ws bs _ (hands_back b (view ws) sh bs (own_of sh tile) tile (opcode_of op) ep a (other_opcode op d));
     }

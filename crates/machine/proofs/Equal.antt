@@ -7,7 +7,7 @@ use native.Mathlib.Omega.{arith}
 use borrow.Author.Tests.{leb-false}
 use lib.Dec.{leb}
 use Rattle.bits.specs.Search.{all}
-use Rattle.bits.proofs.SearchLaws.{all-at, all_true}
+use Rattle.bits.proofs.SearchLaws.{all_at, all_true}
 use Rattle.numbers.proofs.TestLaws.{same_flag}
 use Rattle.board.specs.Equal.{AsBefore, Alike}
 use Rattle.board.specs.declared.Board.{Board}
@@ -24,34 +24,34 @@ use Rattle.machine.specs.Machine.{machine_right}
 use Rattle.machine.specs.Equal.{remote_before, MachineAsBefore}
 
 module _ (b : Board) (m : ℕ) (same : AsBefore b m) where
-  good-same : (ws : List ℕ) → good_table b ws ≡ all (λ q. acceptable_words m (words_nth ws q)) (b.tiles * 64)
+  good_same : (ws : List ℕ) → good_table b ws ≡ all (λ q. acceptable_words m (words_nth ws q)) (b.tiles * 64)
   unfolding good_table
-  good-same ws =
+  good_same ws =
       let now = acceptable_at b ws in
       let before : ℕ → Bool = λ q. acceptable_words m (words_nth ws q) in
       same_flag (all now (b.tiles * 64)) (all before (b.tiles * 64))
-      (λ h. all_true before (b.tiles * 64) (λ q l. rw (← same.same_size (q / 64) (omega arith)) (all-at now (b.tiles * 64) h q l)))
-      (λ h. all_true now (b.tiles * 64) (λ q l. rw (same.same_size (q / 64) (omega arith)) (all-at before (b.tiles * 64) h q l)))
+      (λ h. all_true before (b.tiles * 64) (λ q l. rw (← same.same_size (q / 64) (omega arith)) (all_at now (b.tiles * 64) h q l)))
+      (λ h. all_true now (b.tiles * 64) (λ q l. rw (same.same_size (q / 64) (omega arith)) (all_at before (b.tiles * 64) h q l)))
 
-  remote-same : (f : MemoryFields) (off size : ℕ) → first (remote_checks b f off size) ≡ first (remote_before b m f off size)
+  remote_same : (f : MemoryFields) (off size : ℕ) → first (remote_checks b f off size) ≡ first (remote_before b m f off size)
   unfolding remote_checks first
-  remote-same f off size = go (leb b.tiles f.tile) refl
+  remote_same f off size = go (leb b.tiles f.tile) refl
     where
       go : (x : Bool) → leb b.tiles f.tile ≡ x → first (remote_checks b f off size) ≡ first (remote_before b m f off size)
       go true p = rw p
       go false p = rw (same.same_size f.tile (leb-false b.tiles f.tile p))
 
-  machine-as-before : MachineAsBefore b m
+  machine_as_before : MachineAsBefore b m
   unfolding machine_right outside local_at remote_at slot_at
-  machine-as-before = record {
-    right = λ ws sh bs. rw (same.same-right, good-same ws);
+  machine_as_before = record {
+    right = λ ws sh bs. rw (same.same_right, good_same ws);
     configurable = λ tile w l. rw (same.same_size tile l);
-    local-range = λ tile a l. rw (same.same_size tile l);
-    local-start = λ tile a l. rw (same.same_start tile (omega arith));
-    remote-range = remote-same;
-    remote-start = λ f off l. rw (same.same_start f.tile (omega arith));
-    slot-start = λ s r i l. rw (same.same_start s.tgt_tile (omega arith));
+    local_range = λ tile a l. rw (same.same_size tile l);
+    local_start = λ tile a l. rw (same.same_start tile (omega arith));
+    remote_range = remote_same;
+    remote_start = λ f off l. rw (same.same_start f.tile (omega arith));
+    slot_start = λ s r i l. rw (same.same_start s.tgt_tile (omega arith));
   }
 
-pub equal-as-before : (b : Board) (p : ℕ) → Alike b p → MachineAsBefore b (p * 4096)
-equal-as-before b p alike = machine-as-before b (p * 4096) (as_before b p alike)
+pub equal_as_before : (b : Board) (p : ℕ) → Alike b p → MachineAsBefore b (p * 4096)
+equal_as_before b p alike = machine_as_before b (p * 4096) (as_before b p alike)

@@ -27,7 +27,7 @@ use Rattle.command.specs.Command.{Command, does, ◌noting◌, nothing, ◌▸�
 use Rattle.command.specs.Outcome.{outcome, carried}
 use Rattle.command.specs.declared.Registers.{Registers}
 use Rattle.command.proofs.CheckFacts.{passed}
-use Rattle.command.proofs.WriteLaws.{by_answer, carried-refused, carried-accepted}
+use Rattle.command.proofs.WriteLaws.{by_answer, carried_refused, carried_accepted}
 use Rattle.access.specs.Access.{READ, WRITE}
 use Rattle.delivery.specs.Delivery.{message_checks, far_checks, fit_checks, delivered, arrival_of}
 use Rattle.messages.specs.Send.{last_checks, send_checks, request_of, SEND}
@@ -36,12 +36,12 @@ use Rattle.receive.specs.Fetch.{fetch_writes, FETCH}
 use Rattle.receive.specs.Ack.{freeing, ACK_MSG}
 use Rattle.machine.specs.Machine.{Opcode, op_idle, op_send, op_reply, op_read, op_write, op_fetch, op_ack, op_other, step_of, privileged_step}
 use Rattle.machine.proofs.PrivilegedLaws.{one_of_three}
-use Rattle.machine.proofs.Fitting.{is-receive}
+use Rattle.machine.proofs.Fitting.{is_receive_lem}
 
 -- what was accepted, of any command
-pub note-fits : (b : Board) (sh : List ℕ) (x : ℕ) (ws bs : List ℕ) (k : Command) → (first k.checks ≡ None → NoteFits b sh k.effect.notes) → NoteFits b sh (carried x ws bs k).completion.note
+pub note_fits : (b : Board) (sh : List ℕ) (x : ℕ) (ws bs : List ℕ) (k : Command) → (first k.checks ≡ None → NoteFits b sh k.effect.notes) → NoteFits b sh (carried x ws bs k).completion.note
 unfolding outcome
-note-fits b sh x ws bs k f = by_answer (first k.checks) (λ h. rw (carried-accepted x ws bs k h) (f h)) (λ e h. rw (carried-refused x ws bs k e h) tt)
+note_fits b sh x ws bs k f = by_answer (first k.checks) (λ h. rw (carried_accepted x ws bs k h) (f h)) (λ e h. rw (carried_refused x ws bs k e h) tt)
 
 module _ (b : Board) (t : Table) (sh : List ℕ) where
   -- a message that came by s to the receiver at its target
@@ -52,56 +52,56 @@ module _ (b : Board) (t : Table) (sh : List ℕ) where
   came s there is room =
       record {
         there = there;
-        ep-small = live t s.tgt_tile s.tgt_ep (ap is_invalid (is-receive (endpoint_at t s.tgt_tile s.tgt_ep) is));
+        ep_small = live t s.tgt_tile s.tgt_ep (ap is_invalid (is_receive_lem (endpoint_at t s.tgt_tile s.tgt_ep) is));
         room = λ f. leb-false 64 (waiting_of sh s.tgt_tile) (rw f at room);
       }
 
   module _ (bs : List ℕ) (own tile ep : ℕ) (a : Registers) where
     -- checks 11: the target's tile is there; 12: the target receives; 16: a request has a place
-    send-notes : first (SEND b t sh bs own tile ep a).checks ≡ None → NoteFits b sh (SEND b t sh bs own tile ep a).effect.notes
+    send_notes : first (SEND b t sh bs own tile ep a).checks ≡ None → NoteFits b sh (SEND b t sh bs own tile ep a).effect.notes
     unfolding SEND request_of send_checks message_checks last_checks delivered far_checks fit_checks ◌then◌ ◌▸◌ ◌▸▸◌ does ◌noting◌ send◌or◌gives◌ receive◌or◌gives◌ slot◌or◌gives◌
-    send-notes h =
+    send_notes h =
         let ok = passed (SEND b t sh bs own tile ep a).checks h in
         let s = send_of (endpoint_at t tile ep) in
         came s (leb-false b.tiles s.tgt_tile (ok 11)) (not-false (is_receive (endpoint_at t s.tgt_tile s.tgt_ep)) (ok 12)) (ok 16)
 
     -- checks 14: the target's tile is there; 15: the target receives; 19: a request has a place
-    reply-notes : first (REPLY b t sh bs own tile ep a).checks ≡ None → NoteFits b sh (REPLY b t sh bs own tile ep a).effect.notes
+    reply_notes : first (REPLY b t sh bs own tile ep a).checks ≡ None → NoteFits b sh (REPLY b t sh bs own tile ep a).effect.notes
     unfolding REPLY answer_of response_of from_checks reply_checks message_checks delivered far_checks fit_checks ◌then◌ ◌▸◌ ◌▸▸◌ does ◌noting◌ send◌or◌gives◌ receive◌or◌gives◌ slot◌or◌gives◌
-    reply-notes h =
+    reply_notes h =
         let ok = passed (REPLY b t sh bs own tile ep a).checks h in
         let g = receive_of (endpoint_at t tile ep) in
         let s = send_of (endpoint_at t tile (g.rpl_eps + slot_named g a.arg0)) in
         came s (leb-false b.tiles s.tgt_tile (ok 14)) (not-false (is_receive (endpoint_at t s.tgt_tile s.tgt_ep)) (ok 15)) (ok 19)
 
-    fetch-notes : NoteFits b sh (FETCH t own tile ep).effect.notes
+    fetch_notes : NoteFits b sh (FETCH t own tile ep).effect.notes
     unfolding FETCH ◌▸◌ does ◌noting◌ receive◌or◌gives◌ slot◌else◌gives◌
-    fetch-notes = go (receive_of (endpoint_at t tile ep)) (unread_slot (receive_of (endpoint_at t tile ep)))
+    fetch_notes = go (receive_of (endpoint_at t tile ep)) (unread_slot (receive_of (endpoint_at t tile ep)))
       where
         go : (r : ReceiveFields) (u : Found)
             → NoteFits b sh (slot u else does [] nothing 18446744073709551615 gives λ i. does (fetch_writes tile ep r i) nothing (i * 2 ^ r.slot_size) noting Read).effect.notes
         go r (At i d) = tt
         go r Nothing = tt
 
-    ack-notes : NoteFits b sh (ACK_MSG t own tile ep a).effect.notes
+    ack_notes : NoteFits b sh (ACK_MSG t own tile ep a).effect.notes
     unfolding ACK_MSG freeing ◌gives◌else◌ ◌▸◌ ◌▸▸◌ does ◌noting◌ receive◌or◌gives◌
-    ack-notes = let r = receive_of (endpoint_at t tile ep) in go (has_bit r.unread (slot_named r a.arg0))
+    ack_notes = let r = receive_of (endpoint_at t tile ep) in go (has_bit r.unread (slot_named r a.arg0))
       where
         go : (x : Bool) → NoteFits b sh (x gives Note.Read else Note.Nothing)
         go true = tt
         go false = tt
 
-    pub step-notes : (op : Opcode) → first (step_of b t sh bs own tile op ep a).checks ≡ None → NoteFits b sh (step_of b t sh bs own tile op ep a).effect.notes
+    pub step_notes : (op : Opcode) → first (step_of b t sh bs own tile op ep a).checks ≡ None → NoteFits b sh (step_of b t sh bs own tile op ep a).effect.notes
     unfolding step_of READ WRITE does ◌▸◌ ◌▸▸◌ memory◌or◌gives◌
-    step-notes op_idle h = tt
-    step-notes op_send h = send-notes h
-    step-notes op_reply h = reply-notes h
-    step-notes op_read h = tt
-    step-notes op_write h = tt
-    step-notes op_fetch h = fetch-notes
-    step-notes op_ack h = ack-notes
-    step-notes op_other h = tt
+    step_notes op_idle h = tt
+    step_notes op_send h = send_notes h
+    step_notes op_reply h = reply_notes h
+    step_notes op_read h = tt
+    step_notes op_write h = tt
+    step_notes op_fetch h = fetch_notes
+    step_notes op_ack h = ack_notes
+    step_notes op_other h = tt
 
-pub privileged-notes : (b : Board) (sh : List ℕ) (tile op arg0 arg1 : ℕ) → NoteFits b sh (privileged_step sh tile op arg0 arg1).effect.notes
+pub privileged_notes : (b : Board) (sh : List ℕ) (tile op arg0 arg1 : ℕ) → NoteFits b sh (privileged_step sh tile op arg0 arg1).effect.notes
 unfolding does ◌noting◌ ◌▸◌
-privileged-notes b sh tile op arg0 arg1 = one_of_three (λ k. NoteFits b sh k.effect.notes) sh tile op arg0 arg1 tt (omega arith) tt
+privileged_notes b sh tile op arg0 arg1 = one_of_three (λ k. NoteFits b sh k.effect.notes) sh tile op arg0 arg1 tt (omega arith) tt

@@ -24,6 +24,6 @@ use Rattle.receive.specs.Ack.{ack_checks, ack_writes, ACK_MSG}
 use Rattle.machine.specs.Machine.{step_of}
 use Rattle.machine.specs.Session.{lines, Session}
 
-pub as-printed : Session
+pub as_printed : Session
 unfolding lines step_of ◌gives◌else◌ ◌above◌ board_of in_word pages_of size_of put_bit loops.first find_slot endpoint_at upd free_slot unread_slot slot_named range_past range_bad filled fetched cleared first ◌then◌ ◌fails◌else◌ does ◌noting◌ ◌▸◌ ◌▸▸◌ send◌or◌gives◌ receive◌or◌gives◌ slot◌or◌gives◌ slot◌else◌gives◌ tabled settled crosses_page word_at foreign crowded outside too_long message_checks far_checks fit_checks delivered arrival last_checks send_checks sep_of rsize_of request reply_to with_credits reply_placed credit_spent send_writes request_of SEND from_checks credit_bad reply_checks response room_for creditable credited credit_to credit_returned reply_gone slot_freed reply_writes response_of answer_of REPLY fetch_writes FETCH ack_checks ack_writes ACK_MSG
-as-printed = refl
+as_printed = refl

@@ -70,5 +70,5 @@ pub record Demand1 : Type 0 where
   pub privileged : (b : Board) (ws sh bs : List ℕ) (tile op arg0 arg1 : ℕ) → Settles arg1 ws sh bs tile privileged_refusals (privileged_of b ws sh bs tile op arg0 arg1)
   pub respond : (b : Board) (ws sh bs : List ℕ) (tile x : ℕ) → Settles x ws sh bs tile host_refusals (respond_of b ws sh bs tile)
   -- ARG_1 comes back as given from every opcode but FETCH's; a FETCH that is refused gives it back by `unchanged`
-  pub arg1-back : (b : Board) (ws sh bs : List ℕ) (tile op ep : ℕ) (a : Registers) → (op ≡ 5 → ⊥)
+  pub arg1_back : (b : Board) (ws sh bs : List ℕ) (tile op ep : ℕ) (a : Registers) → (op ≡ 5 → ⊥)
       → (carried a.arg1 ws bs (command_of b ws sh bs tile op ep a)).completion.arg1 ≡ a.arg1

@@ -40,9 +40,9 @@ remote_before b m f off size =
 pub record MachineAsBefore (b : Board) (m : ℕ) : Type 0 where
   pub right : (ws sh bs : List ℕ) → machine_right b ws sh bs ≡ right_before b m ws sh bs
   pub configurable : (tile : ℕ) (w : Words) → tile < b.tiles → acceptable_words (size_of b tile) w ≡ acceptable_words m w
-  pub local-range : (tile : ℕ) (a : Registers) → tile < b.tiles → outside b tile a ≡ (a.addr + a.size above m)
-  pub local-start : (tile : ℕ) (a : Registers) → tile < b.tiles → local_at b tile a ≡ tile * m + a.addr
-  pub remote-range : (f : MemoryFields) (off size : ℕ) → first (remote_checks b f off size) ≡ first (remote_before b m f off size)
-  pub remote-start : (f : MemoryFields) (off : ℕ) → f.tile < b.tiles → remote_at b f off ≡ f.tile * m + (f.addr + off)
-  pub slot-start : (s : SendFields) (r : ReceiveFields) (i : ℕ) → s.tgt_tile < b.tiles
+  pub local_range : (tile : ℕ) (a : Registers) → tile < b.tiles → outside b tile a ≡ (a.addr + a.size above m)
+  pub local_start : (tile : ℕ) (a : Registers) → tile < b.tiles → local_at b tile a ≡ tile * m + a.addr
+  pub remote_range : (f : MemoryFields) (off size : ℕ) → first (remote_checks b f off size) ≡ first (remote_before b m f off size)
+  pub remote_start : (f : MemoryFields) (off : ℕ) → f.tile < b.tiles → remote_at b f off ≡ f.tile * m + (f.addr + off)
+  pub slot_start : (s : SendFields) (r : ReceiveFields) (i : ℕ) → s.tgt_tile < b.tiles
       → slot_at b s r i ≡ s.tgt_tile * m + (r.buffer + i * 2 ^ r.slot_size)

@@ -8,7 +8,7 @@ use lib.Dec.{eqb}
 use borrow.Author.Tests.{eqb-true, eqb-false}
 use Rattle.numbers.specs.Choice.{◌gives◌else◌}
 use Rattle.numbers.specs.Tests.{All}
-use Rattle.numbers.proofs.SumLaws.{above-false}
+use Rattle.numbers.proofs.SumLaws.{above_false}
 use Rattle.answers.specs.declared.Answer.{Answer}
 use Rattle.answers.specs.declared.Answer.TheVariants.{None}
 use Rattle.board.specs.Board.{size_of, bytes_of}
@@ -29,7 +29,7 @@ use Rattle.command.specs.Outcome.{written}
 use Rattle.command.specs.Local.{outside}
 use Rattle.command.specs.declared.Registers.{Registers}
 use Rattle.command.proofs.CheckFacts.{passed}
-use Rattle.command.proofs.CheckedLaws.{live-send, read-acceptable}
+use Rattle.command.proofs.CheckedLaws.{live_send, read_acceptable}
 use Rattle.delivery.specs.Header.{header_fields}
 use Rattle.delivery.specs.Delivery.{message_checks}
 use Rattle.delivery.specs.Target.{target_of}
@@ -39,14 +39,14 @@ use Rattle.delivery.specs.declared.Target.{Target}
 use Rattle.delivery.specs.declared.Target.TheVariants.{To}
 use Rattle.messages.specs.Send.{last_checks, send_checks, sep_of, rsize_of, request, send_writes}
 use Rattle.messages.specs.Ready.{Sendable}
-use Rattle.messages.proofs.MessageLaws.{short, tile-small, stowable}
+use Rattle.messages.proofs.MessageLaws.{short, tile_small, stowable}
 
 -- ---- the endpoint that arg0 names
-receive-live : (e : Endpoint) → is_receive e ≡ true → is_invalid e ≡ false
-receive-live Invalid h = sym h
-receive-live (Send s) h = refl
-receive-live (Receive r) h = refl
-receive-live (Memory m) h = refl
+receive_live : (e : Endpoint) → is_receive e ≡ true → is_invalid e ≡ false
+receive_live Invalid h = sym h
+receive_live (Send s) h = refl
+receive_live (Receive r) h = refl
+receive_live (Memory m) h = refl
 
 -- arg0 is 65535, or names a receive endpoint and so a number below 64
 named : (x y : Bool) (arg0 : ℕ) → eqb arg0 65535 ≡ x → (not x && not y) ≡ false → (y ≡ true → arg0 < 64) → arg0 < 65536
@@ -54,28 +54,28 @@ named true y arg0 e h l = omega (arith, eqb-true arg0 65535 e)
 named false true arg0 e h l = omega (arith, l refl)
 named false false arg0 e h l = let z : ◌≡◌ {A = ℕ} 0 1 = cc in absurd (omega arith)
 
-slot-size-small : (m : ℕ) (e : Endpoint) → acceptable m e ≡ true → (receive_of e).slot_size ≤ 11
+slot_size_small : (m : ℕ) (e : Endpoint) → acceptable m e ≡ true → (receive_of e).slot_size ≤ 11
 unfolding no_receive
-slot-size-small m Invalid h = omega arith
-slot-size-small m (Send s) h = omega arith
-slot-size-small m (Receive r) h = (accepted m r h).sizes-hold.1.1.0
-slot-size-small m (Memory x) h = omega arith
+slot_size_small m Invalid h = omega arith
+slot_size_small m (Send s) h = omega arith
+slot_size_small m (Receive r) h = (accepted m r h).sizes_hold.1.1.0
+slot_size_small m (Memory x) h = omega arith
 
-rsize-small : (b : Board) (ws : List ℕ) (tile : ℕ) (a : Registers) → Checked b ws tile → rsize_of (view ws) tile a ≤ 11
+rsize_small : (b : Board) (ws : List ℕ) (tile : ℕ) (a : Registers) → Checked b ws tile → rsize_of (view ws) tile a ≤ 11
 unfolding rsize_of ◌gives◌else◌
-rsize-small b ws tile a c = go (eqb a.arg0 65535)
+rsize_small b ws tile a c = go (eqb a.arg0 65535)
   where
     go : (x : Bool) → (x gives 5 else (receive_of (endpoint_at (view ws) tile a.arg0)).slot_size) ≤ 11
     go true = omega arith
-    go false = slot-size-small (size_of b tile) (endpoint_at (view ws) tile a.arg0) (read-acceptable b ws tile tile a.arg0 c c.there)
+    go false = slot_size_small (size_of b tile) (endpoint_at (view ws) tile a.arg0) (read_acceptable b ws tile tile a.arg0 c c.there)
 
 -- the same of the endpoint o that a call read
-pub rsize-of-receive : (o e : Endpoint) (r : ReceiveFields) → o ≡ e → o ≡ Receive r → r.slot_size ≡ (receive_of e).slot_size
-rsize-of-receive o e r q p = rw (← q, p)
+pub rsize_of_receive : (o e : Endpoint) (r : ReceiveFields) → o ≡ e → o ≡ Receive r → r.slot_size ≡ (receive_of e).slot_size
+rsize_of_receive o e r q p = rw (← q, p)
 
-pub rsize-of-other : (o e : Endpoint) → o ≡ e → ((x : ReceiveFields) → o ≡ Receive x → ⊥) → 0 ≡ (receive_of e).slot_size
+pub rsize_of_other : (o e : Endpoint) → o ≡ e → ((x : ReceiveFields) → o ≡ Receive x → ⊥) → 0 ≡ (receive_of e).slot_size
 unfolding no_receive
-rsize-of-other o e q k = rw (← q) (go o k)
+rsize_of_other o e q k = rw (← q) (go o k)
   where
     go : (x : Endpoint) → ((f : ReceiveFields) → x ≡ Receive f → ⊥) → 0 ≡ (receive_of x).slot_size
     go Invalid z = refl
@@ -91,32 +91,32 @@ sendable n b ws own tile ep s a o c e h q p =
     let ok = passed (send_checks b (view ws) own tile s a) (sym e ∙ h) in
     let back = endpoint_at (view ws) tile a.arg0 in
     record {
-      from = live-send o (view ws) tile ep s q p;
+      from = live_send o (view ws) tile ep s q p;
       credit = omega (arith, eqb-false s.cur_crd 0 (ok 8));
-      rep-small = named (eqb a.arg0 65535) (is_receive back) a.arg0 refl (ok 6) (λ y. live (view ws) tile a.arg0 (receive-live back y));
-      rsize-small = rsize-small b ws tile a c;
+      rep_small = named (eqb a.arg0 65535) (is_receive back) a.arg0 refl (ok 6) (λ y. live (view ws) tile a.arg0 (receive_live back y));
+      rsize_small = rsize_small b ws tile a c;
       short = short a.size s.msg_sz (ok 2) (ok 3);
-      local-in = above-false _ _ (ok 7);
+      local_in = above_false _ _ (ok 7);
     }
 
 -- ---- the header fits its bits
-sep-small : (ep : ℕ) (s : SendFields) → ep < 64 → sep_of ep s < 65536
+sep_small : (ep : ℕ) (s : SendFields) → ep < 64 → sep_of ep s < 65536
 unfolding sep_of ◌gives◌else◌
-sep-small ep s l = go (eqb s.cur_crd 63)
+sep_small ep s l = go (eqb s.cur_crd 63)
   where
     go : (x : Bool) → (x gives 65535 else ep) < 65536
     go true = omega arith
     go false = omega arith
 
-request-fits : (b : Board) (ws : List ℕ) (tile ep : ℕ) (s : SendFields) (a : Registers) → Checked b ws tile → Sendable b (view ws) tile ep s a → All (fit (header_fields (request (view ws) tile ep s a)))
+request_fits : (b : Board) (ws : List ℕ) (tile ep : ℕ) (s : SendFields) (a : Registers) → Checked b ws tile → Sendable b (view ws) tile ep s a → All (fit (header_fields (request (view ws) tile ep s a)))
 unfolding request
-request-fits b ws tile ep s a c z = omega (arith, tile-small b ws tile c, sep-small ep s z.from, z.rsize-small, z.short, z.rep-small)
+request_fits b ws tile ep s a c z = omega (arith, tile_small b ws tile c, sep_small ep s z.from, z.rsize_small, z.short, z.rep_small)
 
 -- what storing the message asks
-pub stow-request : (b : Board) (ws sh : List ℕ) (n tile ep : ℕ) (s : SendFields) (a : Registers) (q : Target) (r : ReceiveFields) (i : ℕ) (h : Header) → Checked b ws tile → n ≡ bytes_of b
+pub stow_request : (b : Board) (ws sh : List ℕ) (n tile ep : ℕ) (s : SendFields) (a : Registers) (q : Target) (r : ReceiveFields) (i : ℕ) (h : Header) → Checked b ws tile → n ≡ bytes_of b
     → Sendable b (view ws) tile ep s a → q ≡ target_of b (view ws) sh s a → q ≡ To r i → h ≡ request (view ws) tile ep s a → Stowed b n tile a s r i h
-stow-request b ws sh n tile ep s a q r i h c l z e p k = stowable b ws sh tile s a q r i c e p h n l z.local-in (rw k (request-fits b ws tile ep s a c z))
+stow_request b ws sh n tile ep s a q r i h c l z e p k = stowable b ws sh tile s a q r i c e p h n l z.local_in (rw k (request_fits b ws tile ep s a c z))
 
 -- the writes of a message whose header a call made
-pub sent-as : (us ws : List ℕ) (tile ep : ℕ) (s : SendFields) (r : ReceiveFields) (i : ℕ) (h k : Header) → h ≡ k → us ≡ written ws (send_writes tile ep s r i h) → us ≡ written ws (send_writes tile ep s r i k)
-sent-as us ws tile ep s r i h k e x = rw (← e) x
+pub sent_as : (us ws : List ℕ) (tile ep : ℕ) (s : SendFields) (r : ReceiveFields) (i : ℕ) (h k : Header) → h ≡ k → us ≡ written ws (send_writes tile ep s r i h) → us ≡ written ws (send_writes tile ep s r i k)
+sent_as us ws tile ep s r i h k e x = rw (← e) x

@@ -13,20 +13,20 @@ use Rattle.messages.specs.Send.{rsize_of}
 pub record Sendable (b : Board) (t : Table) (tile ep : ℕ) (s : SendFields) (a : Registers) : Type 0 where
   pub from : ep < 64
   pub credit : 0 < s.cur_crd
-  pub rep-small : a.arg0 < 65536
-  pub rsize-small : rsize_of t tile a ≤ 11
+  pub rep_small : a.arg0 < 65536
+  pub rsize_small : rsize_of t tile a ≤ 11
   pub short : a.size < 4096
-  pub local-in : a.addr + a.size ≤ size_of b tile
+  pub local_in : a.addr + a.size ≤ size_of b tile
 
 -- REPLY to slot i of the endpoint ep of a tile by the reply endpoint s
 pub record Replyable (b : Board) (tile ep : ℕ) (g : ReceiveFields) (i : ℕ) (s : SendFields) (a : Registers) : Type 0 where
   pub from : ep < 64
   pub slot : i < 32
   pub reach : g.rpl_eps + i < 64
-  pub credit-small : s.crd_ep < 65536
-  pub credit-in : (s.crd_ep ≡ 65535 → ⊥) → s.crd_ep < 64
+  pub credit_small : s.crd_ep < 65536
+  pub credit_in : (s.crd_ep ≡ 65535 → ⊥) → s.crd_ep < 64
   pub short : a.size < 4096
-  pub local-in : a.addr + a.size ≤ size_of b tile
+  pub local_in : a.addr + a.size ≤ size_of b tile
 
 -- the endpoint at number rep may get a credit: it is one of its tile's
 pub record Creditable (rep : ℕ) : Type 0 where

@@ -80,8 +80,8 @@ cleared r i =
 pub record Usable (r : ReceiveFields) : Type 0 where
   pub few : r.slots ≤ 5
   pub small : r.slot_size ≤ 11
-  pub write-turn : r.wpos ≤ 2 ^ r.slots
-  pub read-turn : r.rpos ≤ 2 ^ r.slots
+  pub write_turn : r.wpos ≤ 2 ^ r.slots
+  pub read_turn : r.rpos ≤ 2 ^ r.slots
 
 -- the reply endpoint of slot i, where there is a range, is one of the tile's
 unfoldable pub InReach : ReceiveFields → ℕ → Type 0

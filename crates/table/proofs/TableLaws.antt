@@ -10,33 +10,33 @@ use borrow.Author.Tests.{eqb-true, eqb-false, leb-false, lt-leb}
 use lib.Dec.{eqb, leb}
 use lib.ListN.{length}
 use Rattle.numbers.specs.Choice.{◌gives◌else◌}
-use Rattle.bits.proofs.SearchLaws.{all-at, all_true}
+use Rattle.bits.proofs.SearchLaws.{all_at, all_true}
 use Rattle.board.specs.declared.Board.{Board}
 use Rattle.endpoint.specs.Endpoint.{fields_of, words_of}
 use Rattle.endpoint.specs.Kinds.{is_invalid}
 use Rattle.endpoint.specs.Acceptable.{acceptable}
 use Rattle.endpoint.specs.declared.Endpoint.{Endpoint}
 use Rattle.endpoint.specs.declared.Endpoint.TheVariants.{Invalid}
-use Rattle.endpoint.proofs.EndpointLaws.{fits-true}
-use Rattle.endpoint.proofs.RoundTrip.{fields_back, words_back, words-acceptable}
+use Rattle.endpoint.proofs.EndpointLaws.{fits_true}
+use Rattle.endpoint.proofs.RoundTrip.{fields_back, words_back, words_acceptable}
 use Rattle.table.specs.Words.{words_nth, put_nth}
 use Rattle.table.specs.Table.{Table, place, endpoint_at, upd, view, stored}
 use Rattle.table.specs.Good.{memory_at, acceptable_at, good_table}
-use Rattle.table.proofs.WordLaws.{length-put, words-put-same, words-put-other}
+use Rattle.table.proofs.WordLaws.{length-put, words_put_same, words_put_other}
 
 -- ---- a function changed at one place
 module _ {A : Type 0} (f : ℕ → A) (q : ℕ) (v : A) (j : ℕ) where
-  pub upd-at : j ≡ q → upd f q v j ≡ v
+  pub upd_at : j ≡ q → upd f q v j ≡ v
   unfolding upd
-  upd-at p = go (eqb j q) refl
+  upd_at p = go (eqb j q) refl
     where
       go : (b : Bool) → eqb j q ≡ b → cond b v (f j) ≡ v
       go true e = refl
       go false e = absurd (eqb-false j q e p)
 
-  pub upd-off : j ≢ q → upd f q v j ≡ f j
+  pub upd_off : j ≢ q → upd f q v j ≡ f j
   unfolding upd
-  upd-off d = go (eqb j q) refl
+  upd_off d = go (eqb j q) refl
     where
       go : (b : Bool) → eqb j q ≡ b → cond b v (f j) ≡ f j
       go true e = absurd (d (eqb-true j q e))
@@ -53,8 +53,8 @@ unfolding view stored
 view-stored ws q m e l ok = fun_ext (λ j. at j (ℕ_discrete j q))
   where
     at : (j : ℕ) → Dec (j ≡ q) → fields_of (words_nth (put_nth ws q (words_of e)) j) ≡ upd (view ws) q e j
-    at j (yes p) = rw (upd-at (view ws) q e j p, p, words-put-same ws q (words_of e) l) (fields_back e (fits-true m e ok))
-    at j (no d) = rw (upd-off (view ws) q e j d, words-put-other ws q j (words_of e) d)
+    at j (yes p) = rw (upd_at (view ws) q e j p, p, words_put_same ws q (words_of e) l) (fields_back e (fits_true m e ok))
+    at j (no d) = rw (upd_off (view ws) q e j d, words_put_other ws q j (words_of e) d)
 
 -- an endpoint that has a number below 64 stands at its place
 pub look : (t : Table) (tile ep : ℕ) → ep < 64 → endpoint_at t tile ep ≡ t (place tile ep)
@@ -73,15 +73,15 @@ live t tile ep h = go (leb 64 ep) refl h
 -- ---- a good table
 module _ (b : Board) (ws : List ℕ) (good : good_table b ws ≡ true) where
   -- each endpoint of it is acceptable
-  pub good-at : (q : ℕ) → q < b.tiles * 64 → acceptable (memory_at b q) (view ws q) ≡ true
+  pub good_at : (q : ℕ) → q < b.tiles * 64 → acceptable (memory_at b q) (view ws q) ≡ true
   unfolding good_table view
-  good-at q l = (words_back (memory_at b q) (words_nth ws q) (all-at (acceptable_at b ws) (b.tiles * 64) good q l)).0
+  good_at q l = (words_back (memory_at b q) (words_nth ws q) (all_at (acceptable_at b ws) (b.tiles * 64) good q l)).0
 
   -- and it stays good when something acceptable is written
-  pub good-stored : (q : ℕ) (e : Endpoint) → q * 3 + 2 < length ws → acceptable (memory_at b q) e ≡ true → good_table b (stored ws q e) ≡ true
+  pub good_stored : (q : ℕ) (e : Endpoint) → q * 3 + 2 < length ws → acceptable (memory_at b q) e ≡ true → good_table b (stored ws q e) ≡ true
   unfolding good_table stored
-  good-stored q e l ok = all_true (acceptable_at b (put_nth ws q (words_of e))) (b.tiles * 64) (λ j k. at j k (ℕ_discrete j q))
+  good_stored q e l ok = all_true (acceptable_at b (put_nth ws q (words_of e))) (b.tiles * 64) (λ j k. at j k (ℕ_discrete j q))
     where
       at : (j : ℕ) → j < b.tiles * 64 → Dec (j ≡ q) → acceptable_at b (put_nth ws q (words_of e)) j ≡ true
-      at j k (yes p) = rw (p, words-put-same ws q (words_of e) l) (words-acceptable (memory_at b q) e ok)
-      at j k (no d) = rw (words-put-other ws q j (words_of e) d) (all-at (acceptable_at b ws) (b.tiles * 64) good j k)
+      at j k (yes p) = rw (p, words_put_same ws q (words_of e) l) (words_acceptable (memory_at b q) e ok)
+      at j k (no d) = rw (words_put_other ws q j (words_of e) d) (all_at (acceptable_at b ws) (b.tiles * 64) good j k)

@@ -18,26 +18,26 @@ use Rattle.command.specs.declared.Completion.{Completion}
 use Rattle.board.specs.declared.Board.{Board}
 use Rattle.command.specs.Command.{does, ◌noting◌, ◌▸▸◌}
 use Rattle.machine.specs.Machine.{respond_of, Left, left, left_by}
-use Rattle.machine.proofs.Demand1.{arg1-back}
-use Rattle.machine.proofs.LeftLaws.{leaves-noted}
+use Rattle.machine.proofs.Demand1.{arg1_back}
+use Rattle.machine.proofs.LeftLaws.{leaves_noted}
 use Rattle.tcu.specs.Interface.{returned, in_c, list_of}
 
-pub in-c : (n : ℕ) (r : Completion) (us ts cs : List ℕ) (o : Left) → n ≡ number_of r.answer → left r us ts cs ≡ o → returned n r.arg1 us ts cs ≡ in_c o
+pub in_c_lem : (n : ℕ) (r : Completion) (us ts cs : List ℕ) (o : Left) → n ≡ number_of r.answer → left r us ts cs ≡ o → returned n r.arg1 us ts cs ≡ in_c o
 unfolding left in_c
-in-c n r us ts cs o e h = rw (← h, e)
+in_c_lem n r us ts cs o e h = rw (← h, e)
 
 -- the same where the call notes nothing and the records are lent to be read
-pub in-c-quiet : (n : ℕ) (a : Answer) (x : ℕ) (us sh cs : List ℕ) (tile : ℕ) (o : Outcome) → n ≡ number_of a → outcome (completes a x) us cs ≡ o → returned n x us sh cs ≡ in_c (left_by sh tile o)
+pub in_c_quiet : (n : ℕ) (a : Answer) (x : ℕ) (us sh cs : List ℕ) (tile : ℕ) (o : Outcome) → n ≡ number_of a → outcome (completes a x) us cs ≡ o → returned n x us sh cs ≡ in_c (left_by sh tile o)
 unfolding noted
-in-c-quiet n a x us sh cs tile o e h = in-c n (completes a x) us sh cs _ e (leaves-noted (completes a x) us sh cs sh tile o h refl)
+in_c_quiet n a x us sh cs tile o e h = in_c_lem n (completes a x) us sh cs _ e (leaves_noted (completes a x) us sh cs sh tile o h refl)
 
 -- a response hands nothing back
-pub in-c-response : (n : ℕ) (r : Completion) (b : Board) (ws sh ts bs : List ℕ) (tile : ℕ) → n ≡ number_of r.answer
+pub in_c_response : (n : ℕ) (r : Completion) (b : Board) (ws sh ts bs : List ℕ) (tile : ℕ) → n ≡ number_of r.answer
     → left r ws ts bs ≡ left_by sh tile (carried 0 ws bs (respond_of b ws sh bs tile)) → returned n 0 ws ts bs ≡ in_c (left_by sh tile (carried 0 ws bs (respond_of b ws sh bs tile)))
 unfolding left left_by respond_of ◌▸▸◌ does ◌noting◌
-in-c-response n r b ws sh ts bs tile e h =
-    let same : r.arg1 ≡ 0 = ap (λ (o : Left). o.completion.arg1) h ∙ arg1-back 0 ws bs (respond_of b ws sh bs tile) refl in
-    rw same at (in-c n r ws ts bs _ e h)
+in_c_response n r b ws sh ts bs tile e h =
+    let same : r.arg1 ≡ 0 = ap (λ (o : Left). o.completion.arg1) h ∙ arg1_back 0 ws bs (respond_of b ws sh bs tile) refl in
+    rw same at (in_c_lem n r ws ts bs _ e h)
 
 -- no refusal has the number 0
 pub no_zero : (e : Error) → code_of e ≡ 0 → ⊥

@@ -20,7 +20,7 @@ use Rattle.endpoint.specs.declared.Words.{Words}
 use Rattle.endpoint.specs.declared.Endpoint.{Endpoint}
 use Rattle.endpoint.specs.declared.Unpacked.{Unpacked}
 use Rattle.endpoint.specs.declared.Packed.{Packed}
-use Rattle.endpoint.proofs.EndpointLaws.{words-eq, fits-true}
+use Rattle.endpoint.proofs.EndpointLaws.{words_eq, fits_true}
 use Rattle.endpoint.proofs.RoundTrip.{round_trip}
 use Rattle.lists.specs.Fields.{field_values, Named, names, nothing, endpoint_of, pack_named, pack_list}
 use Rattle.lists.proofs.Inverse.{eleven, inverse}
@@ -35,62 +35,62 @@ numbered t = t.number
 abbrev listed : Turned → List ℕ
 listed t = t.list
 
-fields-from : (l f : List ℕ) (u : Unpacked) → fields_in_c l u ≡ turned 0 f → (e : Endpoint) × (u ≡ Unpacked.Fields e) × (field_values e ≡ f)
+fields_from : (l f : List ℕ) (u : Unpacked) → fields_in_c l u ≡ turned 0 f → (e : Endpoint) × (u ≡ Unpacked.Fields e) × (field_values e ≡ f)
 unfolding fields_in_c turned
-fields-from l f (Unpacked.Fields e) h = (e, refl, ap listed h)
-fields-from l f (Unpacked.Refused x) h = absurd (no_zero x (ap numbered h))
+fields_from l f (Unpacked.Fields e) h = (e, refl, ap listed h)
+fields_from l f (Unpacked.Refused x) h = absurd (no_zero x (ap numbered h))
 
-words-from : (ws : List ℕ) (w : Words) (p : Packed) → words_in_c ws p ≡ turned 0 (list_of w) → p ≡ Packed.Words w
+words_from : (ws : List ℕ) (w : Words) (p : Packed) → words_in_c ws p ≡ turned 0 (list_of w) → p ≡ Packed.Words w
 unfolding words_in_c turned
-words-from ws w (Packed.Words v) h =
+words_from ws w (Packed.Words v) h =
     let l : list_of v ≡ list_of w = ap listed h in
-    ap Packed.Words (words-eq (cc) (cc) (cc))
-words-from ws w (Packed.Refused x) h = absurd (no_zero x (ap numbered h))
+    ap Packed.Words (words_eq (cc) (cc) (cc))
+words_from ws w (Packed.Refused x) h = absurd (no_zero x (ap numbered h))
 
-long-from : (b : Bool) (ws : List ℕ) (t : Turned) (k : List ℕ) → (b gives t else turned (code_of BadMachine) ws) ≡ turned 0 k → (b ≡ true) × (t ≡ turned 0 k)
+long_from : (b : Bool) (ws : List ℕ) (t : Turned) (k : List ℕ) → (b gives t else turned (code_of BadMachine) ws) ≡ turned 0 k → (b ≡ true) × (t ≡ turned 0 k)
 unfolding turned ◌gives◌else◌
-long-from true ws t k h = (refl, h)
-long-from false ws t k h = absurd (no_zero BadMachine (ap numbered h))
+long_from true ws t k h = (refl, h)
+long_from false ws t k h = absurd (no_zero BadMachine (ap numbered h))
 
 -- both tests of a choice between words and refusals held
-chosen-words : (b : Bool) (p : Packed) (x : Error) (w : Words) → (b gives p else Packed.Refused x) ≡ Packed.Words w → (b ≡ true) × (p ≡ Packed.Words w)
+chosen_words : (b : Bool) (p : Packed) (x : Error) (w : Words) → (b gives p else Packed.Refused x) ≡ Packed.Words w → (b ≡ true) × (p ≡ Packed.Words w)
 unfolding ◌gives◌else◌
-chosen-words true p x w h = (refl, h)
-chosen-words false p x w h = let z : ◌≡◌ {A = ℕ} 0 1 = cc in absurd (omega arith)
+chosen_words true p x w h = (refl, h)
+chosen_words false p x w h = let z : ◌≡◌ {A = ℕ} 0 1 = cc in absurd (omega arith)
 
-named-words : (m : ℕ) (n : Named) (w : Words) → pack_named m n ≡ Packed.Words w → (e : Endpoint) × (n ≡ names e) × (pack_of m e ≡ Packed.Words w)
+named_words : (m : ℕ) (n : Named) (w : Words) → pack_named m n ≡ Packed.Words w → (e : Endpoint) × (n ≡ names e) × (pack_of m e ≡ Packed.Words w)
 unfolding pack_named
-named-words m (names e) w h = (e, refl, h)
-named-words m nothing w h = let z : ◌≡◌ {A = ℕ} 0 1 = cc in absurd (omega arith)
+named_words m (names e) w h = (e, refl, h)
+named_words m nothing w h = let z : ◌≡◌ {A = ℕ} 0 1 = cc in absurd (omega arith)
 
-pack-fits : (m : ℕ) (e : Endpoint) (w : Words) → pack_of m e ≡ Packed.Words w → (memory_allowed m ≡ true) × All (fits e)
+pack_fits : (m : ℕ) (e : Endpoint) (w : Words) → pack_of m e ≡ Packed.Words w → (memory_allowed m ≡ true) × All (fits e)
 unfolding pack_of
-pack-fits m e w h =
-    let p = chosen-words (memory_allowed m) _ BadMachine w h in
-    let q = chosen-words (acceptable m e) (Packed.Words (words_of e)) BadConfig w p.1 in
-    (p.0, fits-true m e q.0)
+pack_fits m e w h =
+    let p = chosen_words (memory_allowed m) _ BadMachine w h in
+    let q = chosen_words (acceptable m e) (Packed.Words (words_of e)) BadConfig w p.1 in
+    (p.0, fits_true m e q.0)
 
 -- ---- the round trip
 there : (m : ℕ) (w : Words) (f l ws : List ℕ) → length l ≡ 11 → length ws ≡ 3 → unpack_in_c m w l ≡ turned 0 f → pack_in_c m f ws ≡ turned 0 (list_of w)
 unfolding unpack_in_c pack_in_c pack_list pack_named words_in_c ◌gives◌else◌
 there m w f l ws long three h =
-    let u = fields-from l f (unpack_of m w) (long-from (eqb (length l) 11) l _ f h).1 in
+    let u = fields_from l f (unpack_of m w) (long_from (eqb (length l) 11) l _ f h).1 in
     let e = u.0 in
     let p = (round_trip m w e).0 u.1 in
-    let q = pack-fits m e w p in
+    let q = pack_fits m e w p in
     let n : length f ≡ 11 = rw (← u.2) (eleven e) in
     rw (eq-eqb _ _ n, eq-eqb _ _ three, q.0, (inverse f e).1 (u.2, q.1), p)
 
 back : (m : ℕ) (w : Words) (f l ws : List ℕ) → length l ≡ 11 → pack_in_c m f ws ≡ turned 0 (list_of w) → unpack_in_c m w l ≡ turned 0 f
 unfolding unpack_in_c pack_in_c pack_list fields_in_c ◌gives◌else◌
 back m w f l ws long h =
-    let p = words-from ws w (pack_list m f) (long-from (eqb (length f) 11 && eqb (length ws) 3) ws _ (list_of w) h).1 in
-    let q = named-words m (endpoint_of f) w (chosen-words (memory_allowed m) _ BadMachine w p).1 in
+    let p = words_from ws w (pack_list m f) (long_from (eqb (length f) 11 && eqb (length ws) 3) ws _ (list_of w) h).1 in
+    let q = named_words m (endpoint_of f) w (chosen_words (memory_allowed m) _ BadMachine w p).1 in
     let e = q.0 in
     rw (eq-eqb _ _ long, (round_trip m w e).1 q.2, ((inverse f e).0 q.1).0)
 
-pub round-trip-in-c : statements.RoundTrip
-round-trip-in-c m w f l ws long three = (there m w f l ws long three, back m w f l ws long)
+pub round_trip_in_c : statements.RoundTrip
+round_trip_in_c m w f l ws long three = (there m w f l ws long three, back m w f l ws long)
 
 pub only : statements.Only
 unfolding returned turned

@@ -2,8 +2,8 @@
 use mathlib.Core.Bool.{Bool, true, false, ◌&&◌}
 use mathlib.Core.Path.{◌≡◌}
 
-pub stop-and : (f b c : Bool) → f ≡ b → f ≡ false → false ≡ b && c
-stop-and f b c e h = rw (← e, h)
+pub stop_and : (f b c : Bool) → f ≡ b → f ≡ false → false ≡ b && c
+stop_and f b c e h = rw (← e, h)
 
-pub pass-and : (f b c r : Bool) → f ≡ b → f ≡ true → r ≡ c → r ≡ b && c
-pass-and f b c r e h q = rw (← e, h) q
+pub pass_and : (f b c r : Bool) → f ≡ b → f ≡ true → r ≡ c → r ≡ b && c
+pass_and f b c r e h q = rw (← e, h) q

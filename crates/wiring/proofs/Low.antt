@@ -21,6 +21,6 @@ read_low (suc (suc zero)) w g e =
 read_low (suc (suc (suc zero))) w g e = clash (cc)
 read_low (suc (suc (suc (suc n)))) w g e = clash (cc)
 
-pub view-low : (ws : List ℕ) (q : ℕ) → Low (view ws q)
+pub view_low : (ws : List ℕ) (q : ℕ) → Low (view ws q)
 unfolding view fields_of
-view-low ws q = read_low (bits 0 2 (words_nth ws q).first) (words_nth ws q)
+view_low ws q = read_low (bits 0 2 (words_nth ws q).first) (words_nth ws q)

@@ -5,7 +5,7 @@ use mathlib.Core.Path.{◌≡◌, sym, ◌∙◌, fun_ext}
 use native.Mathlib.Decide.{ℕ_discrete}
 use native.Mathlib.Omega.{arith}
 use Rattle.table.specs.Table.{upd}
-use Rattle.table.proofs.TableLaws.{upd-at, upd-off}
+use Rattle.table.proofs.TableLaws.{upd_at, upd_off}
 
 -- two constructors that cannot be equal: `clash (cc)`
 pub clash : {A : Type 0} → ◌≡◌ {A = ℕ} 0 1 → A
@@ -29,19 +29,19 @@ everywhere P k here there j = go (same? j k)
 
 module _ {A : Type 0} (f : ℕ → A) (k : ℕ) (v : A) where
   -- the same after a change: at the place itself, and elsewhere
-  pub upd-case : (P : ℕ → A → Type 0) → P k v → ((j : ℕ) → j ≢ k → P j (f j)) → (j : ℕ) → P j (upd f k v j)
-  upd-case P here there j = go (same? j k)
+  pub upd_case : (P : ℕ → A → Type 0) → P k v → ((j : ℕ) → j ≢ k → P j (f j)) → (j : ℕ) → P j (upd f k v j)
+  upd_case P here there j = go (same? j k)
     where
       go : (j ≡ k) ⊎ (j ≢ k) → P j (upd f k v j)
-      go (inl e) = rw (upd-at f k v j e, e) here
-      go (inr d) = rw (upd-off f k v j d) (there j d)
+      go (inl e) = rw (upd_at f k v j e, e) here
+      go (inr d) = rw (upd_off f k v j d) (there j d)
 
   -- changes at two places, in either order
-  pub upd-comm : (l : ℕ) (w : A) → k ≢ l → upd (upd f k v) l w ≡ upd (upd f l w) k v
-  upd-comm l w d = fun_ext (λ j. go j (same? j k) (same? j l))
+  pub upd_comm : (l : ℕ) (w : A) → k ≢ l → upd (upd f k v) l w ≡ upd (upd f l w) k v
+  upd_comm l w d = fun_ext (λ j. go j (same? j k) (same? j l))
     where
       go : (j : ℕ) → (j ≡ k) ⊎ (j ≢ k) → (j ≡ l) ⊎ (j ≢ l) → upd (upd f k v) l w j ≡ upd (upd f l w) k v j
       go j (inl e) (inl e') = absurd (d (sym e ∙ e'))
-      go j (inl e) (inr d') = simp (upd-at, upd-off)
-      go j (inr d') (inl e) = simp (upd-at, upd-off)
-      go j (inr d') (inr d'') = simp upd-off
+      go j (inl e) (inr d') = simp (upd_at, upd_off)
+      go j (inr d') (inl e) = simp (upd_at, upd_off)
+      go j (inr d') (inr d'') = simp upd_off

@@ -4,7 +4,7 @@ use mathlib.Core.Bool.{true, ◌&&◌}
 use mathlib.Core.List.{List}
 use mathlib.Core.Path.{◌≡◌}
 use lib.ListN.{length}
-use Rattle.numbers.proofs.TestLaws.{split-and}
+use Rattle.numbers.proofs.TestLaws.{split_and}
 use Rattle.board.specs.Board.{sizes_right}
 use Rattle.board.specs.declared.Board.{Board}
 use Rattle.board.proofs.BoardLaws.{right, bounds}
@@ -13,7 +13,7 @@ use Rattle.endpoint.specs.declared.Endpoint.TheVariants.{Receive}
 use Rattle.endpoint.proofs.EndpointLaws.{Rules, accepted}
 use Rattle.table.specs.Table.{Table, view}
 use Rattle.table.specs.Good.{memory_at, good_table}
-use Rattle.table.proofs.TableLaws.{good-at}
+use Rattle.table.proofs.TableLaws.{good_at}
 use Rattle.sharing.specs.Sharing.{Shared, sharing_good}
 use Rattle.slots.specs.Slots.{slots_of}
 use Rattle.machine.specs.Machine.{machine_right}
@@ -34,21 +34,21 @@ module _ (b : Board) (ws sh bs : List ℕ) (ok : machine_right b ws sh bs ≡ tr
   abbrev parts : (sizes_right b (length ws) (length sh) (length bs) ≡ true) × (good_table b ws ≡ true) × (sharing_good b sh ≡ true)
   unfolding machine_right
   parts =
-      let p = split-and (sizes_right b (length ws) (length sh) (length bs)) (good_table b ws && sharing_good b sh) ok in
-      let q = split-and (good_table b ws) (sharing_good b sh) p.1 in
+      let p = split_and (sizes_right b (length ws) (length sh) (length bs)) (good_table b ws && sharing_good b sh) ok in
+      let q = split_and (good_table b ws) (sharing_good b sh) p.1 in
       (p.0, q.0, q.1)
 
-  pub right-lent : Lent b (length ws)
-  right-lent = lent b (length ws) (length sh) (length bs) parts.0
+  pub right_lent : Lent b (length ws)
+  right_lent = lent b (length ws) (length sh) (length bs) parts.0
 
   pub shares : Shared b sh
-  shares = record { long = (right b (length ws) (length sh) (length bs) parts.0).sharing-right; good = parts.2 }
+  shares = record { long = (right b (length ws) (length sh) (length bs) parts.0).sharing_right; good = parts.2 }
 
   rules : (q : ℕ) (g : ReceiveFields) → q < b.tiles * 64 → view ws q ≡ Receive g → Rules (memory_at b q) g
-  rules q g l e = accepted (memory_at b q) g (rw e at (good-at b ws parts.1 q l))
+  rules q g l e = accepted (memory_at b q) g (rw e at (good_at b ws parts.1 q l))
 
   pub few : (r : ℕ) (g : ReceiveFields) → Receiver b.tiles (view ws) r g → g.slots ≤ 5
-  few r g R = (rules r g R.there R.is).sizes-hold.0
+  few r g R = (rules r g R.there R.is).sizes_hold.0
 
   pub turns : Turns b.tiles (view ws)
-  turns r g l e = (rules r g l e).positions-hold.0
+  turns r g l e = (rules r g l e).positions_hold.0

@@ -7,16 +7,16 @@ use native.Mathlib.Omega.{arith}
 use Rattle.wiring.specs.Sums.{sum}
 use Rattle.wiring.proofs.Places.{same?}
 
-pub sum-none : (n : ℕ) (f : ℕ → ℕ) → ((j : ℕ) → f j ≡ 0) → sum n f ≡ 0
+pub sum_none : (n : ℕ) (f : ℕ → ℕ) → ((j : ℕ) → f j ≡ 0) → sum n f ≡ 0
 unfolding sum
-sum-none zero f h = refl
-sum-none (suc n) f h = omega (arith, sum-none n f h, h n)
+sum_none zero f h = refl
+sum_none (suc n) f h = omega (arith, sum_none n f h, h n)
 
 -- a term is at most the sum
-pub sum-term : (n k : ℕ) (f : ℕ → ℕ) → k < n → f k ≤ sum n f
+pub sum_term : (n k : ℕ) (f : ℕ → ℕ) → k < n → f k ≤ sum n f
 unfolding sum
-sum-term zero k f l = omega arith
-sum-term (suc n) k f l = go (same? n k) (λ l'. sum-term n k f l')
+sum_term zero k f l = omega arith
+sum_term (suc n) k f l = go (same? n k) (λ l'. sum_term n k f l')
   where
     go : (n ≡ k) ⊎ (n ≢ k) → (k < n → f k ≤ sum n f) → f k ≤ sum n f + f n
     go (inl e) ih = rw e (omega arith)
@@ -26,10 +26,10 @@ sum-term (suc n) k f l = go (same? n k) (λ l'. sum-term n k f l')
 pub sum_same : (n : ℕ) (f g : ℕ → ℕ) → ((j : ℕ) → f j ≡ g j) → sum n f ≡ sum n g
 sum_same n f g h = ap (sum n) (fun_ext h)
 
-pub sum-le : (n : ℕ) (f g : ℕ → ℕ) → ((j : ℕ) → j < n → f j ≤ g j) → sum n f ≤ sum n g
+pub sum_le : (n : ℕ) (f g : ℕ → ℕ) → ((j : ℕ) → j < n → f j ≤ g j) → sum n f ≤ sum n g
 unfolding sum
-sum-le zero f g h = le_refl 0
-sum-le (suc n) f g h = omega (arith, sum-le n f g (λ j l. h j (omega arith)), h n (le_refl (suc n)))
+sum_le zero f g h = le_refl 0
+sum_le (suc n) f g h = omega (arith, sum_le n f g (λ j l. h j (omega arith)), h n (le_refl (suc n)))
 
 -- that differ at most at k
 sum_below : (m k : ℕ) (f g : ℕ → ℕ) → m ≤ k → ((j : ℕ) → j ≢ k → f j ≡ g j) → sum m f ≡ sum m g
@@ -37,10 +37,10 @@ unfolding sum
 sum_below zero k f g l h = refl
 sum_below (suc m) k f g l h = omega (arith, sum_below m k f g (omega arith) h, h m (omega arith))
 
-pub sum-at : (n k : ℕ) (f g : ℕ → ℕ) → k < n → ((j : ℕ) → j ≢ k → f j ≡ g j) → sum n f + g k ≡ sum n g + f k
+pub sum_at : (n k : ℕ) (f g : ℕ → ℕ) → k < n → ((j : ℕ) → j ≢ k → f j ≡ g j) → sum n f + g k ≡ sum n g + f k
 unfolding sum
-sum-at zero k f g l h = omega arith
-sum-at (suc n) k f g l h = go (same? n k) (λ l'. sum-at n k f g l' h)
+sum_at zero k f g l h = omega arith
+sum_at (suc n) k f g l h = go (same? n k) (λ l'. sum_at n k f g l' h)
   where
     go : (n ≡ k) ⊎ (n ≢ k) → (k < n → sum n f + g k ≡ sum n g + f k) → sum n f + f n + g k ≡ sum n g + g n + f k
     go (inl e) ih = rw (← e) (omega (arith, sum_below n k f g (omega arith) h))
@@ -53,5 +53,5 @@ sum_lt zero k f g l h s = omega arith
 sum_lt (suc n) k f g l h s = go (same? n k) (λ l'. sum_lt n k f g l' (λ j l''. h j (omega arith)) s)
   where
     go : (n ≡ k) ⊎ (n ≢ k) → (k < n → sum n f < sum n g) → sum n f + f n < sum n g + g n
-    go (inl e) ih = omega (arith, sum-le n f g (λ j l'. h j (omega arith)), rw (← e) at s)
+    go (inl e) ih = omega (arith, sum_le n f g (λ j l'. h j (omega arith)), rw (← e) at s)
     go (inr d) ih = omega (arith, ih (omega arith), h n (omega arith))

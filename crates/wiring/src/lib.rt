@@ -1,5 +1,5 @@
 // The wiring check (document 01, "Sound wiring"): is the table wired so that no buffer can be full of requests?
-// The promise that rests on it is demand 3, `specs/Demand3.antt`.
+// The promise that rests on it is demand 3, `ledger/specs/Demand3.antt`.
 #![tactic(auto)]
 
 ghost use Rattle.std.specs.Prelude.{◌≡◌, ◌+◌, ◌*◌, ◌/◌, ◌<◌, ◌≤◌, length};

@@ -4,7 +4,7 @@ use Rattle.command.proofs.CheckLaws.{tests}
 use Rattle.command.proofs.CarryLaws.{carry}
 use Rattle.command.specs.Outcome.{carried}
 use Rattle.access.specs.Access.{READ}
-use Rattle.access.proofs.AccessLaws.{moves, far-tile, far-start, near-start, far-inside, near-inside}
+use Rattle.access.proofs.AccessLaws.{moves, far_tile, far_start, near_start, far_inside, near_inside}
 use Rattle.access.proofs.read.Goals as goal
 
 pub returns-in_default : goal.returns-in_default
@@ -21,15 +21,15 @@ returns-then-a-eq0 c = search (carry, tests, moves) depth 20
 
 pub remote_at-from-requires : goal.remote_at-from-requires
 unfolding READ carried
-remote_at-from-requires c = (search rules, search far-tile, search far-start)
+remote_at-from-requires c = (search rules, search far_tile, search far_start)
 
 pub local_at-to-requires : goal.local_at-to-requires
 unfolding READ carried
-local_at-to-requires c = (search rules, search rules, search near-start)
+local_at-to-requires c = (search rules, search rules, search near_start)
 
 pub move_bytes-requires : goal.move_bytes-requires
 unfolding READ carried
-move_bytes-requires c = (search (far-inside, near-inside), search (near-inside, far-inside))
+move_bytes-requires c = (search (far_inside, near_inside), search (near_inside, far_inside))
 
 pub returns : goal.returns
 unfolding READ carried

@@ -8,7 +8,7 @@ use mathlib.Core.Bool.{Bool, beq}
 use lib.Pow.{pow_mono, pow-lt, pow_pos}
 use Rattle.bits.specs.Bits.{has_bit}
 use Rattle.bits.specs.Slots.{as_wanted}
-use Rattle.bits.proofs.SlotLaws.{find-hit, find_none}
+use Rattle.bits.proofs.SlotLaws.{find_hit, find_none}
 use Rattle.bits.proofs.find_slot.Goals as goal
 
 n-is : (s : ℕ) → s ≤ 5 → 1 * 2 ^ s % 4294967296 ≡ 2 ^ s
@@ -35,7 +35,7 @@ returns-then-test-wanted c =
     let l = c.loop-far in
     rw l.invariant.4
     (sym
-    (find-hit _ _ _ _ _ l.far l.invariant.0 l.invariant.6 (omega arith) (told _ _ _ _ _ l.invariant.4 (rw (← c.test.ensures) c.if-test-wanted.true))))
+    (find_hit _ _ _ _ _ l.far l.invariant.0 l.invariant.6 (omega arith) (told _ _ _ _ _ l.invariant.4 (rw (← c.test.ensures) c.if-test-wanted.true))))
 
 pub loop-far-preserved : goal.loop-far-preserved
 loop-far-preserved c =

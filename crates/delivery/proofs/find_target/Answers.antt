@@ -1,5 +1,5 @@
 -- `delivery::find_target` meets its contract. Assumes nothing.
-use Rattle.delivery.proofs.TargetLaws.{targets, far-words, far-record, usable-far}
+use Rattle.delivery.proofs.TargetLaws.{targets, far_words, far_record, usable_far}
 use Rattle.delivery.specs.Target.{target_of}
 use Rattle.delivery.proofs.find_target.Goals as goal
 
@@ -9,7 +9,7 @@ returns-in-Refused c = search targets depth 20
 
 pub endpoint_at-requires : goal.endpoint_at-requires
 unfolding target_of
-endpoint_at-requires c = search far-words
+endpoint_at-requires c = search far_words
 
 pub returns-in_default-endpoint_at : goal.returns-in_default-endpoint_at
 unfolding target_of
@@ -17,7 +17,7 @@ returns-in_default-endpoint_at c = search targets depth 20
 
 pub receiver_target-requires : goal.receiver_target-requires
 unfolding target_of
-receiver_target-requires c = (search usable-far, search far-record)
+receiver_target-requires c = (search usable_far, search far_record)
 
 pub returns : goal.returns
 unfolding target_of

@@ -2,7 +2,7 @@
 use native.Mathlib.Omega.{arith}
 use Prim.Native.Nat.{◌*◌}
 use mathlib.Core.Path.{◌≡◌, sym, ◌∙◌}
-use Rattle.bits.proofs.SearchLaws.{all_true, all-false}
+use Rattle.bits.proofs.SearchLaws.{all_true, all_false}
 use Rattle.table.specs.Good.{acceptable_at, good_table}
 use Rattle.table.proofs.good.Goals as goal
 
@@ -12,7 +12,7 @@ returns-then-not-acceptable_words c =
     let seen : acceptable_at c.args.b c.args.words.now c.loop-q.q ≡ c.acceptable_words.result = rw (← c.read_nth-w.ensures, ← c.size-memory.ensures, ← c.acceptable_words.ensures) in
     let l = c in
     let a = l.args in
-    sym (all-false (acceptable_at a.b a.words.now) (a.b.tiles * 64) l.loop-q.q (omega arith) (seen ∙ c.if-not-acceptable_words.true))
+    sym (all_false (acceptable_at a.b a.words.now) (a.b.tiles * 64) l.loop-q.q (omega arith) (seen ∙ c.if-not-acceptable_words.true))
 
 pub returns : goal.returns
 unfolding good_table

@@ -2,7 +2,7 @@
 use mathlib.Core.Path.{refl, sym, ◌∙◌}
 use Rattle.numbers.proofs.ChoiceLaws.{chosen, declined}
 use Rattle.wiring.specs.Wiring.{wiring_of}
-use Rattle.wiring.proofs.Right.{right-lent}
+use Rattle.wiring.proofs.Right.{right_lent}
 use Rattle.wiring.proofs.check_wiring.Goals as goal
 
 pub returns-then-not-machine_right : goal.returns-then-not-machine_right
@@ -11,7 +11,7 @@ returns-then-not-machine_right c = declined _ _ _ _ (sym c.machine_right.ensures
 
 pub is_sound-requires : goal.is_sound-requires
 unfolding wiring_of
-is_sound-requires c = right-lent _ _ _ _ (sym c.machine_right.ensures ∙ c.if-not-machine_right.false)
+is_sound-requires c = right_lent _ _ _ _ (sym c.machine_right.ensures ∙ c.if-not-machine_right.false)
 
 pub returns-then-is_sound : goal.returns-then-is_sound
 unfolding wiring_of

@@ -1,7 +1,7 @@
 -- `wiring::is_sound` meets its contract: each endpoint passed is sound. Assumes nothing.
 use native.Mathlib.Omega.{arith}
 use mathlib.Core.Path.{sym, ◌∙◌}
-use Rattle.bits.proofs.SearchLaws.{all_true, all-false}
+use Rattle.bits.proofs.SearchLaws.{all_true, all_false}
 use Rattle.wiring.specs.Wiring.{sound}
 use Rattle.wiring.proofs.is_sound.Goals as goal
 
@@ -9,7 +9,7 @@ pub returns-then-not-sound_at : goal.returns-then-not-sound_at
 unfolding sound
 returns-then-not-sound_at c =
     let l = c in
-    sym (all-false _ _ l.loop-q.q (omega arith) (sym c.sound_at.ensures ∙ c.if-not-sound_at.true))
+    sym (all_false _ _ l.loop-q.q (omega arith) (sym c.sound_at.ensures ∙ c.if-not-sound_at.true))
 
 pub returns : goal.returns
 unfolding sound

@@ -5,7 +5,7 @@ use mathlib.Core.Path.{refl}
 use native.Mathlib.Omega.{arith}
 use Rattle.numbers.proofs.ChoiceLaws.{chosen, declined}
 use Rattle.wiring.specs.Wiring.{range_sound}
-use Rattle.wiring.proofs.Flags.{stop-and, pass-and}
+use Rattle.wiring.proofs.Flags.{stop_and, pass_and}
 use Rattle.wiring.proofs.range_sound.Goals as goal
 
 pub returns-then-g-eq65535 : goal.returns-then-g-eq65535
@@ -25,7 +25,7 @@ returns-then-not-range_bare c =
     let e = c in
     let ends : e.range_end-end.result ≤ 64 = omega arith in
     declined _ _ _ _ (ne_eqb _ _ e.if-g-eq65535.false)
-    (rw (← e.range_end-end.ensures, le-leb _ _ ends) (stop-and _ _ _ c.range_bare.ensures c.if-not-range_bare.true))
+    (rw (← e.range_end-end.ensures, le-leb _ _ ends) (stop_and _ _ _ c.range_bare.ensures c.if-not-range_bare.true))
 
 pub returns : goal.returns
 unfolding range_sound
@@ -34,4 +34,4 @@ returns c =
     let e = b in
     let ends : e.range_end-end.result ≤ 64 = omega arith in
     declined _ _ _ _ (ne_eqb _ _ e.if-g-eq65535.false)
-    (rw (← e.range_end-end.ensures, le-leb _ _ ends) (pass-and _ _ _ _ b.range_bare.ensures c.if-not-range_bare.false c.range_apart.ensures))
+    (rw (← e.range_end-end.ensures, le-leb _ _ ends) (pass_and _ _ _ _ b.range_bare.ensures c.if-not-range_bare.false c.range_apart.ensures))
