@@ -20,7 +20,7 @@ compare --self [options]   hold the model against itself over the same line
   --wrong each     the same for every rule in turn
   --stack FILE     the stack that each function can need, as host/stack says it;
                    a call must not use more
-  --under PROGRAM  run RUNNER under PROGRAM, as qemu-x86_64
+  --under PROGRAM  run RUNNER under PROGRAM
 compare --rules            list the wrong rules
 Exit status: 0 all the same; 1 a difference, something never reached, or too much
 stack used; 2 bad usage or no runner.";
