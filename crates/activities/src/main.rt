@@ -8,7 +8,7 @@ use board::Board;
 use command::{Completion, Registers};
 use endpoint::{Endpoint, Packed, ReceiveFields, SendFields};
 use machine::Waits;
-use std::io::{self, BufWriter, Write};
+use std::io::{self, Write};
 
 // What the host lends of both tiles: three words for each endpoint, the sharing records, the bytes.
 type Table = [u64; 384];
@@ -498,7 +498,7 @@ fn run<W: Write>(
 }
 
 fn main(rt: HostRuntime) -> io::Result<()> {
-    let mut out = BufWriter::new(rt.alloc(), io::writer(&rt))?;
+    let mut out = io::writer(&rt);
     let mut words = [0u64; 384];
     let mut sharing = [0u64; 134];
     let mut mem = [0u8; 8192];

@@ -6,7 +6,7 @@ use checking::Checked;
 use input::Input;
 use running::Mode;
 use std::env::FillError;
-use std::io::{self, BufWriter, Read, Write};
+use std::io::{self, BufWriter, Write};
 use std::rt::Runtime;
 
 // Runs a checked script, or says that nothing was run. What the machine is lent is cut to the board's sizes here, once; the
@@ -70,10 +70,10 @@ fn rehearse<W: Write>(
     second(s, mode, c, out, words, sharing, mem, values, given)
 }
 
-fn go<R: Read, W: Write>(
-    from: &mut R,
+fn go<W: Write>(
+    read: Input,
     mode: Mode,
-    all: &mut [u8],
+    all: &[u8],
     out: &mut W,
     words: &mut [u64; 1536],
     sharing: &mut [u64; 536],
@@ -81,7 +81,7 @@ fn go<R: Read, W: Write>(
     values: &mut [u64; 40],
     given: &mut [bool; 29],
 ) -> io::Result<()> {
-    match input::read_all(from, all) {
+    match read {
         Input::Got(n) => rehearse(all, n, mode, out, words, sharing, mem, values, given),
         Input::TooLong => output::text(
             out,
@@ -91,18 +91,35 @@ fn go<R: Read, W: Write>(
     }
 }
 
+// Reads the file or, where there is none, standard input.
+fn read<T: Runtime>(rt: &T, file: Option<T::File>, all: &mut [u8]) -> Input {
+    match file {
+        Some(file) => {
+            let mut from = file;
+            input::read_all(&mut from, all)
+        }
+        None => input::read_all(&mut rt.reader(), all),
+    }
+}
+
 // Makes all that the rehearsal works on, and lends it.
-fn start<R: Read, W: Write>(from: &mut R, mode: Mode, out: &mut W) -> io::Result<()> {
+fn start<T: Runtime, W: Write>(
+    rt: &T,
+    file: Option<T::File>,
+    mode: Mode,
+    out: &mut W,
+) -> io::Result<()> {
     let mut all = [0u8; 1048576];
     let mut words = [0u64; 1536];
     let mut sharing = [0u64; 536];
     let mut mem = [0u8; 524288];
     let mut values = [0u64; 40];
     let mut given = [false; 29];
+    let read = read(rt, file, all.as_mut_slice());
     go(
-        from,
+        read,
         mode,
-        all.as_mut_slice(),
+        &all,
         out,
         &mut words,
         &mut sharing,
@@ -153,16 +170,13 @@ fn cannot_open<W: Write>(path: &[u8], out: &mut W) -> io::Result<()> {
 // Rehearses the file of this name. Files are opened by names in UTF-8; one of another name cannot be.
 fn named<T: Runtime, W: Write>(rt: &T, path: &[u8], mode: Mode, out: &mut W) -> io::Result<()> {
     if same(path, b"-") {
-        return start(&mut rt.reader(), mode, out);
+        return start(rt, None, mode, out);
     }
     let Ok(name) = str::from_utf8(path) else {
         return cannot_open(path, out);
     };
     match std::fs::open(rt, name) {
-        Ok(file) => {
-            let mut file = file;
-            start(&mut file, mode, out)
-        }
+        Ok(file) => start(rt, Some(file), mode, out),
         Err(_) => cannot_open(path, out),
     }
 }
@@ -176,7 +190,7 @@ fn is_given<T: Runtime>(rt: &T, i: usize) -> bool {
 fn rest<T: Runtime, W: Write>(rt: &T, i: usize, mode: Mode, out: &mut W) -> io::Result<()> {
     let mut path = [0u8; 4096];
     match rt.arg(i, &mut path) {
-        Err(FillError::NotPresent) => start(&mut rt.reader(), mode, out),
+        Err(FillError::NotPresent) => start(rt, None, mode, out),
         Err(FillError::TooLong) => {
             output::text(out, b"the file's name is too long; nothing was run\n")
         }

@@ -6,7 +6,7 @@ use answers::Answer;
 use board::Board;
 use command::{Completion, Registers};
 use endpoint::{Endpoint, Packed, ReceiveFields, SendFields};
-use std::io::{self, BufWriter, Write};
+use std::io::{self, Write};
 
 // The words that the host lends: three for each of 64 endpoints of two tiles.
 type Table = [u64; 384];
@@ -242,7 +242,7 @@ fn run<W: Write>(
 }
 
 fn main(rt: HostRuntime) -> io::Result<()> {
-    let mut out = BufWriter::new(rt.alloc(), io::writer(&rt))?;
+    let mut out = io::writer(&rt);
     let mut words = [0u64; 384];
     let mut sharing = [0u64; 134];
     let mut mem = [0u8; 8192];

@@ -3,7 +3,7 @@
 // order of its checks.
 #![tactic(auto)]
 
-use std::io::{self, BufWriter, Write};
+use std::io::{self, Write};
 
 mod access_cases;
 mod fields;
@@ -15,7 +15,7 @@ mod slot_cases;
 mod stage;
 
 fn main(rt: HostRuntime) -> io::Result<()> {
-    let mut out = BufWriter::new(rt.alloc(), io::writer(&rt))?;
+    let mut out = io::writer(&rt);
     listed::listed_numbers(&mut out)?;
     host_cases::idle_cases(&mut out)?;
     message_cases::send_cases(&mut out)?;

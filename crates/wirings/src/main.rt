@@ -6,7 +6,7 @@
 use answers::Answer;
 use board::Board;
 use endpoint::{Endpoint, MemoryFields, Packed, ReceiveFields, SendFields};
-use std::io::{self, BufWriter, Write};
+use std::io::{self, Write};
 use wiring::Wiring;
 
 // An endpoint, and where it goes.
@@ -481,7 +481,7 @@ fn word_short<W: Write>(out: &mut W) -> io::Result<()> {
 }
 
 fn main(rt: HostRuntime) -> io::Result<()> {
-    let mut out = BufWriter::new(rt.alloc(), io::writer(&rt))?;
+    let mut out = io::writer(&rt);
     sound(&mut out)?;
     sound_ranges(&mut out)?;
     not_at_rest(&mut out)?;
