@@ -1,8 +1,7 @@
 -- READ and WRITE: not MEMORY 1; act not own 4; permission missing 11; size zero answers 0 at once; DATA_SIZE + ARG_1 above the
 -- endpoint's size 9; page rule 22; then chip not 0, tile absent, or addr + ARG_1 + DATA_SIZE above M, or local range outside M: 14.
 -- Mind: a size of zero is answered before 9, 22 and 14; no sum wraps; all bytes are read before any is written.
-use Rattle.std.specs.Prelude.{ℕ, ◌+◌, ◌/◌, ◌%◌, Bool, not, List, [], ◌∷◌, eqb, leb}
-use Rattle.numbers.specs.Choice.{◌gives◌else◌}
+use Rattle.std.specs.Prelude.{ℕ, ◌+◌, ◌^◌, ◌<◌, ◌≤◌, ◌/◌, ◌%◌, ◌==◌, nat_le, Bool, true, false, not, List, [], ◌∷◌, if◌then◌else◌}
 use Rattle.numbers.specs.Sums.{◌above◌}
 use Rattle.answers.specs.declared.Error.TheVariants.{NoMep, ForeignEp, NoPerm, OutOfBounds, PageBoundary, Abort}
 use Rattle.board.specs.Board.{start_of, size_of}
@@ -15,26 +14,32 @@ use Rattle.command.specs.Command.{Command, bytes_to, does, ◌▸▸◌, memory�
 use Rattle.command.specs.Local.{crosses_page, outside, local_at}
 use Rattle.command.specs.declared.Registers.{Registers}
 
+-- rw is 1 for read plus 2 for write
+abbrev pub permitted : Bool → ℕ → Bool
+permitted false rw = rw % 2 == 1
+permitted true rw = rw / 2 % 2 == 1
+
 -- the endpoint is the own one, and the permission is not missing
-unfoldable pub permit_checks : ℕ → Bool → MemoryFields → List Check
+abbrev pub permit_checks : ℕ → Bool → MemoryFields → List Check
 permit_checks own missing m =
-    not (eqb m.act own) ⇒ ForeignEp
+    not (m.act == own) ⇒ ForeignEp
     ∷ missing ⇒ NoPerm
     ∷ []
 
 -- the remote range of size bytes from offset off in the endpoint's region exists
-unfoldable pub remote_checks : Board → MemoryFields → ℕ → ℕ → List Check
+abbrev pub remote_checks : Board → MemoryFields → ℕ → ℕ → List Check
 remote_checks b m off size =
-    not (eqb m.chip 0) ⇒ Abort
-    ∷ leb b.tiles m.tile ⇒ Abort
+    not (m.chip == 0) ⇒ Abort
+    ∷ nat_le b.tiles m.tile ⇒ Abort
     ∷ (m.addr + off + size above size_of b m.tile) ⇒ Abort
     ∷ []
 
 -- where it starts among the bytes of all tiles
-unfoldable pub remote_at : Board → MemoryFields → ℕ → ℕ
+abbrev pub remote_at : Board → MemoryFields → ℕ → ℕ
 remote_at b m off = start_of b m.tile + (m.addr + off)
 
-unfoldable pub range_checks : Board → ℕ → MemoryFields → Registers → List Check
+-- all that is asked of the ranges, where there are bytes to move
+abbrev pub range_checks : Board → ℕ → MemoryFields → Registers → List Check
 range_checks b tile m a =
     (a.size + a.arg1 above m.size) ⇒ OutOfBounds
     ∷ crosses_page a ⇒ PageBoundary
@@ -46,17 +51,32 @@ range_checks b tile m a =
 unfoldable pub access_checks : Board → ℕ → ℕ → Bool → MemoryFields → Registers → List Check
 access_checks b own tile missing m a =
     permit_checks own missing m then
-    (eqb a.size 0 gives [] else range_checks b tile m a)
+    (if a.size == 0 then [] else range_checks b tile m a)
 
--- rw is 1 for read plus 2 for write
-unfoldable pub READ : Board → Table → List ℕ → ℕ → ℕ → ℕ → Registers → Command
-READ b t bs own tile ep a =
-    memory endpoint_at t tile ep or NoMep gives λ m.
-    access_checks b own tile (eqb (m.rw % 2) 0) m a ▸▸
-    does [] (bytes_to (local_at b tile a) (part bs (remote_at b m a.arg1) a.size)) a.arg1
+-- the place that bytes come from, and the one that they go to
+abbrev pub source : Bool → Board → ℕ → MemoryFields → Registers → ℕ
+source false b tile m a = remote_at b m a.arg1
+source true b tile m a = local_at b tile a
 
-unfoldable pub WRITE : Board → Table → List ℕ → ℕ → ℕ → ℕ → Registers → Command
-WRITE b t bs own tile ep a =
+abbrev pub target : Bool → Board → ℕ → MemoryFields → Registers → ℕ
+target false b tile m a = local_at b tile a
+target true b tile m a = remote_at b m a.arg1
+
+-- WRITE where the test is true, and READ where it is false
+unfoldable pub ACCESS : Bool → Board → Table → List ℕ → ℕ → ℕ → ℕ → Registers → Command
+ACCESS way b t bs own tile ep a =
     memory endpoint_at t tile ep or NoMep gives λ m.
-    access_checks b own tile (eqb (m.rw / 2 % 2) 0) m a ▸▸
-    does [] (bytes_to (remote_at b m a.arg1) (part bs (local_at b tile a) a.size)) a.arg1
+    access_checks b own tile (not (permitted way m.rw)) m a ▸▸
+    does [] (bytes_to (target way b tile m a) (part bs (source way b tile m a) a.size)) a.arg1
+
+abbrev pub READ : Board → Table → List ℕ → ℕ → ℕ → ℕ → Registers → Command
+READ b t bs own tile ep a = ACCESS false b t bs own tile ep a
+
+abbrev pub WRITE : Board → Table → List ℕ → ℕ → ℕ → ℕ → Registers → Command
+WRITE b t bs own tile ep a = ACCESS true b t bs own tile ep a
+
+-- what the code knows of the remote range that passed the checks
+pub record Remote (b : Board) (m : MemoryFields) (a : Registers) : Type 0 where
+  pub there : m.tile < b.tiles
+  pub inside : m.addr + a.arg1 + a.size ≤ size_of b m.tile
+  pub small : m.addr + a.arg1 < 2 ^ 64

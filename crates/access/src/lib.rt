@@ -1,101 +1,84 @@
 // READ and WRITE, on a checked machine (document 01, "The commands, checks in order").
 #![tactic(auto)]
 
-ghost use Rattle.std.specs.Prelude.{◌≡◌, true, ◌+◌, ◌<◌, ◌≤◌, length};
-ghost use Rattle.board.specs.Board.{allowed, size_of, bytes_of};
+ghost use Rattle.std.specs.Prelude.{◌≡◌, ◌≢◌, true, not, ◌+◌, ◌<◌, ◌≤◌, length, IfOk};
+ghost use Rattle.board.specs.Board.{allowed, bytes_of, size_of};
+ghost use Rattle.memory.specs.Bytes.{part, put};
 ghost use Rattle.table.specs.Table.{view};
 ghost use Rattle.command.specs.Checks.{first};
 ghost use Rattle.command.specs.Checked.{Checked};
-ghost use Rattle.command.specs.Outcome.{outcome, carried};
-ghost use Rattle.access.specs.Access.{permit_checks, remote_checks, remote_at, range_checks, access_checks, READ, WRITE};
+ghost use Rattle.command.specs.Outcome.{handed, outcome, carried};
+ghost use Rattle.access.specs.Access.{permitted, access_checks, source, target, ACCESS, Remote};
 
-use answers::{Answer, Error};
+use answers::{Error, check};
 use board::Board;
 use command::{Completion, Registers};
 use endpoint::{Endpoint, MemoryFields};
 use sharing::Note;
 
-// The endpoint is the own one, and the permission is not missing.
-fn permit_checks(own: u16, missing: bool, m: MemoryFields) -> Answer
-    ensures { result ≡ first (permit_checks own missing m) }
+// May bytes go that way? rw is 1 for read plus 2 for write.
+fn permitted<const WRITE: bool>(rw: u8) -> bool
+    ensures { result ≡ permitted WRITE rw }
 {
-    if m.act != own {
-        return Answer::Refused(Error::ForeignEp);
-    }
-    if missing {
-        return Answer::Refused(Error::NoPerm);
-    }
-    Answer::None
+    if WRITE { rw / 2 % 2 == 1 } else { rw % 2 == 1 }
 }
 
-// The remote range of size bytes from offset off in the endpoint's region exists.
-fn remote_checks(b: Board, m: MemoryFields, off: u64, size: u64) -> Answer
-    ensures { result ≡ first (remote_checks b m off size) }
-{
-    if m.chip != 0 {
-        return Answer::Refused(Error::Abort);
-    }
-    if b.tiles <= m.tile as u64 {
-        return Answer::Refused(Error::Abort);
-    }
-    let memory = board::size(b, m.tile as u64);
-    if numbers::sum3_above(m.addr, off, size, memory) {
-        return Answer::Refused(Error::Abort);
-    }
-    Answer::None
-}
-
-// Both ranges are there.
-fn range_checks(b: Board, tile: u64, m: MemoryFields, a: Registers) -> Answer
-    ensures { result ≡ first (range_checks b tile m a) }
-{
-    if numbers::sum_above(a.size, a.arg1, m.size) {
-        return Answer::Refused(Error::OutOfBounds);
-    }
-    if command::crosses_page(a) {
-        return Answer::Refused(Error::PageBoundary);
-    }
-    let remote = remote_checks(b, m, a.arg1, a.size);
-    let Answer::None = remote else {
-        return remote;
-    };
-    if command::leaves_tile(b, tile, a) {
-        return Answer::Refused(Error::Abort);
-    }
-    Answer::None
-}
-
-// All checks of the memory endpoint: a size of zero is answered before the ranges are looked at.
-fn access_checks(
+// The checks of the memory endpoint, in order: a size of zero is answered before the ranges are looked at.
+#[tactic(auto, unfolding(crate::specs::Access::access_checks, command::specs::Local::crosses_page, command::specs::Local::outside))]
+fn access_checks<const WRITE: bool>(
     b: Board,
     own: u16,
     tile: u64,
-    missing: bool,
     m: MemoryFields,
     a: Registers,
-) -> Answer
-    ensures { result ≡ first (access_checks b own tile missing m a) }
+) -> Result<(), Error>
+    ensures value { result ≡ first (access_checks b own tile (not (permitted WRITE m.rw)) m a) }
+    ensures remote { IfOk result (λ x. a.size ≢ 0 → Remote b m a) }
+    ensures local { IfOk result (λ x. a.size ≢ 0 → a.addr + a.size ≤ size_of b tile) }
 {
-    let permit = permit_checks(own, missing, m);
-    let Answer::None = permit else {
-        return permit;
-    };
+    check(m.act == own, Error::ForeignEp)?;
+    check(permitted::<WRITE>(m.rw), Error::NoPerm)?;
     if a.size == 0 {
-        return Answer::None;
+        return Ok(());
     }
-    range_checks(b, tile, m, a)
+    check(
+        !numbers::sum_above(a.size, a.arg1, m.size),
+        Error::OutOfBounds,
+    )?;
+    check(!command::crosses_page(a), Error::PageBoundary)?;
+    check(m.chip == 0, Error::Abort)?;
+    check(u64::from(m.tile) < b.tiles, Error::Abort)?;
+    let memory = board::size(b, u64::from(m.tile));
+    check(
+        !numbers::sum3_above(m.addr, a.arg1, a.size, memory),
+        Error::Abort,
+    )?;
+    check(!command::leaves_tile(b, tile, a), Error::Abort)
 }
 
-// Where the remote range starts among the bytes of all tiles.
-fn remote_at(b: Board, m: MemoryFields, off: u64) -> u64
-    requires { (allowed b ≡ true) × (m.tile < b.tiles) × (m.addr + off ≤ size_of b m.tile) }
-    ensures { result ≡ remote_at b m off }
+// The bytes go from the one range to the other, if there are any.
+#[tactic(auto, using(memory::proofs::ByteLaws::put_empty))]
+fn transfer<const WRITE: bool>(b: Board, mem: &mut [u8], tile: u64, m: MemoryFields, a: Registers)
+    requires board { (allowed b ≡ true) × (tile < b.tiles) × (length mem.old ≡ bytes_of b) }
+    requires remote { a.size ≢ 0 → Remote b m a }
+    requires local { a.size ≢ 0 → a.addr + a.size ≤ size_of b tile }
+    ensures { mem.new ≡ put mem.old (target WRITE b tile m a) (part mem.old (source WRITE b tile m a) a.size) }
 {
-    board::start(b, m.tile as u64) + (m.addr + off)
+    if a.size == 0 {
+        return;
+    }
+    let local = command::place(b, tile, a.addr, a.size) as usize;
+    let remote = command::place(b, u64::from(m.tile), m.addr + a.arg1, a.size) as usize;
+    if WRITE {
+        memory::move_bytes(mem, local, remote, a.size as usize)
+    } else {
+        memory::move_bytes(mem, remote, local, a.size as usize)
+    }
 }
 
-// READ: remote bytes come into the own memory.
-pub fn read(
+// READ or WRITE.
+#[tactic(auto, unfolding(crate::specs::Access::ACCESS))]
+pub fn access<const WRITE: bool>(
     b: Board,
     words: &[u64],
     mem: &mut [u8],
@@ -103,67 +86,17 @@ pub fn read(
     tile: u64,
     ep: u64,
     a: Registers,
-) -> Completion
+) -> Result<Completion, Error>
     requires { Checked b words.now tile × (length mem.old ≡ bytes_of b) }
-    ensures { outcome result words.now mem.new ≡ carried a.arg1 words.now mem.old (READ b (view words.now) mem.old own tile ep a) }
+    ensures { outcome (handed a.arg1 result) words.now mem.new ≡ carried a.arg1 words.now mem.old (ACCESS WRITE b (view words.now) mem.old own tile ep a) }
 {
     let Endpoint::Memory(m) = table::endpoint_at(words, tile as usize, ep) else {
-        return command::refuse(Error::NoMep, a.arg1);
+        return Err(Error::NoMep);
     };
-    let checked = access_checks(b, own, tile, m.rw % 2 == 0, m, a);
-    if let Answer::Refused(e) = checked {
-        return command::refuse(e, a.arg1);
-    }
-    if a.size == 0 {
-        return Completion {
-            answer: Answer::None,
-            arg1: a.arg1,
-            note: Note::Nothing,
-        };
-    }
-    let from = remote_at(b, m, a.arg1);
-    let to = command::local_at(b, tile, a);
-    memory::move_bytes(mem, from as usize, to as usize, a.size as usize);
-    Completion {
-        answer: Answer::None,
+    access_checks::<WRITE>(b, own, tile, m, a)?;
+    transfer::<WRITE>(b, mem, tile, m, a);
+    Ok(Completion {
         arg1: a.arg1,
         note: Note::Nothing,
-    }
-}
-
-// WRITE: own bytes go to the remote memory.
-pub fn write(
-    b: Board,
-    words: &[u64],
-    mem: &mut [u8],
-    own: u16,
-    tile: u64,
-    ep: u64,
-    a: Registers,
-) -> Completion
-    requires { Checked b words.now tile × (length mem.old ≡ bytes_of b) }
-    ensures { outcome result words.now mem.new ≡ carried a.arg1 words.now mem.old (WRITE b (view words.now) mem.old own tile ep a) }
-{
-    let Endpoint::Memory(m) = table::endpoint_at(words, tile as usize, ep) else {
-        return command::refuse(Error::NoMep, a.arg1);
-    };
-    let checked = access_checks(b, own, tile, m.rw / 2 % 2 == 0, m, a);
-    if let Answer::Refused(e) = checked {
-        return command::refuse(e, a.arg1);
-    }
-    if a.size == 0 {
-        return Completion {
-            answer: Answer::None,
-            arg1: a.arg1,
-            note: Note::Nothing,
-        };
-    }
-    let from = command::local_at(b, tile, a);
-    let to = remote_at(b, m, a.arg1);
-    memory::move_bytes(mem, from as usize, to as usize, a.size as usize);
-    Completion {
-        answer: Answer::None,
-        arg1: a.arg1,
-        note: Note::Nothing,
-    }
+    })
 }

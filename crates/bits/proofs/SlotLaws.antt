@@ -1,37 +1,62 @@
--- What `find_slot` finds. Assumes nothing.
-use Prim.Native.Nat.{ℕ, ◌+◌, ◌-◌, ◌%◌, ◌^◌, ◌<◌, ◌≤◌}
-use mathlib.Core.Bool.{Bool, true, false, not, beq, true≢false, false≢true}
-use mathlib.Core.Path.{◌≡◌, refl, sym, ◌∙◌}
+-- What `find_slot` finds: the slot fewest steps from the position that is as wanted, or that no slot is. Assumes nothing.
+use Rattle.std.proofs.Common.{ℕ, zero, suc, ◌+◌, ◌-◌, ◌%◌, ◌^◌, ◌<◌, ◌≤◌, ◌≡◌, refl, sym, ◌∙◌, Bool, true, false, true≢false, not, cond, map, Option, Some, None, inl, inr, arith}
+use mathlib.Core.Bool.{false≢true}
+use Rattle.std.proofs.lemmas.Bool.{cases_lt}
+use Rattle.std.specs.Bool.{beq}
+use Rattle.std.specs.List.{find, range_with_len}
 use native.Mathlib.Nat.{mod-lt, mod-eq_of_lt, add-mod_left}
-use native.Mathlib.Omega.{arith}
 use native.Mathlib.Decide.{dec_le}
-use borrow.Author.Tests.{lt-ltb, le-ltb, ltb-true, ltb-false}
-use lib.Dec.{ltb}
 use lib.Pow.{pow_pos}
-use Rattle.bits.specs.Bits.{has_bit}
-use Rattle.bits.specs.Search.{first}
-use Rattle.bits.specs.Slots.{as_wanted, found_if, find_slot}
-use Rattle.bits.specs.declared.Found.{Found}
-use Rattle.bits.specs.declared.Found.TheVariants.{At, Nothing}
 use lib.Count.{ones}
+use Rattle.bits.specs.Bits.{has_bit}
+use Rattle.bits.specs.Slots.{slot_at, find_slot}
+use Rattle.bits.specs.declared.Slot.{Slot}
 use Rattle.bits.proofs.BitLaws.{has_bit_lem, ones_full}
-use Rattle.bits.proofs.SearchLaws.{IsFirst, first_is, first_unique}
 
-pub beq_true : (a b : Bool) → beq a b ≡ true → a ≡ b
+beq_true : (a b : Bool) → beq a b ≡ true → a ≡ b
 beq_true true true e = refl
 beq_true true false e = cc
 beq_true false true e = cc
 beq_true false false e = refl
 
-pub beq_false : (a b : Bool) → beq a b ≡ false → a ≡ not b
-beq_false true true e = e
+beq_false : (a b : Bool) → beq a b ≡ false → a ≡ not b
+beq_false true true e = cc
 beq_false true false e = refl
 beq_false false true e = refl
-beq_false false false e = sym e
+beq_false false false e = cc
 
-neq : (b : Bool) → b ≡ not b → ⊥
-neq true e = true≢false e
-neq false e = false≢true e
+-- ---- a search over numbers, each made into an element
+module _ {X : Type 0} (p : X → Bool) (f : ℕ → X) where
+  -- the first number of a range whose element passes
+  pub record First (a n : ℕ) (x : X) : Type 0 where
+    pub at : ℕ
+    pub low : a ≤ at
+    pub high : at < a + n
+    pub made : x ≡ f at
+    pub passes : p (f at) ≡ true
+    pub before : (k : ℕ) → a ≤ k → k < at → p (f k) ≡ false
+
+  abbrev pub Searched : ℕ → ℕ → Option X → Type 0
+  Searched a n (Some x) = First a n x
+  Searched a n None = (k : ℕ) → a ≤ k → k < a + n → p (f k) ≡ false
+
+  pub searched : (a n : ℕ) → Searched a n (find p (map f (range_with_len a n)))
+  searched a zero = λ k l h. absurd (omega arith)
+  searched a (suc n) = step (p (f a)) refl (find p (map f (range_with_len (a + 1) n))) (searched (a + 1) n)
+    where
+      step : (b : Bool) → p (f a) ≡ b → (r : Option X) → Searched (a + 1) n r → Searched a (suc n) (cond b (Some (f a)) r)
+      step true e r s = record { at = a; low = omega arith; high = omega arith; made = refl; passes = e; before = λ k l h. absurd (omega arith) }
+      step false e (Some x) s =
+          record {
+            at = s.at;
+            low = omega (arith, s.low);
+            high = omega (arith, s.high);
+            made = s.made;
+            passes = s.passes;
+            before = λ k l h. elim (cases_lt a k) [ inl q ↦ s.before k (omega arith) h | inr q ↦ let z : a ≡ k = omega arith in rw (← z) e ];
+          }
+      step false e None s =
+          λ k l h. elim (cases_lt a k) [ inl q ↦ s k (omega arith) (omega arith) | inr q ↦ let z : a ≡ k = omega arith in rw (← z) e ]
 
 -- every slot is some steps from pos
 steps : (n pos s : ℕ) → pos ≤ n → s < n → (d : ℕ) × (d < n) × ((pos + d) % n ≡ s)
@@ -45,71 +70,56 @@ steps n pos s p l = go (dec_le pos s)
     go (no h) = (n + s - pos, omega arith, at (n + s - pos) (n + s) (omega arith) (add-mod_left n s ∙ mod-eq_of_lt l))
 
 module _ (mask pos slots : ℕ) (wanted : Bool) where
-  -- where d is the first that is as wanted, the search finds that many steps from pos
-  find_is : (n d : ℕ) → n ≡ 2 ^ slots → IsFirst (as_wanted mask pos n wanted) n d → find_slot mask pos slots wanted ≡ found_if (ltb d n) ((pos + d) % n) d
-  unfolding find_slot
-  find_is n d e f =
-      let P = as_wanted mask pos n wanted in
-      rw (← e, first_unique P n (first P n 0) d (first_is P n) f)
-
-  -- what a loop that passed d slots shows
-  module _ (n d : ℕ) (e : n ≡ 2 ^ slots) (passed : (k : ℕ) → k < d → as_wanted mask pos n wanted k ≡ false) where
-    pub find_hit : d < n → as_wanted mask pos n wanted d ≡ true → find_slot mask pos slots wanted ≡ At ((pos + d) % n) d
-    find_hit l h = find_is n d e (record { high = omega arith; here = λ _. h; before = passed }) ∙ rw (lt-ltb d n l)
-
-    pub find_none : d ≡ n → find_slot mask pos slots wanted ≡ Nothing
-    find_none l = find_is n d e (record { high = omega arith; here = λ k. absurd (omega arith); before = passed }) ∙ rw (le-ltb d n (omega arith))
-
   -- a slot that is found: it is one of the slots, its bit is as wanted, and no slot on the way to it is
-  pub record Nearest (s far : ℕ) : Type 0 where
-    pub below : s < 2 ^ slots
-    pub wanted_bit : has_bit mask s ≡ wanted
-    pub there : s ≡ (pos + far) % 2 ^ slots
-    pub within : far < 2 ^ slots
-    pub nearer : (k : ℕ) → k < far → has_bit mask ((pos + k) % 2 ^ slots) ≡ not wanted
+  pub record Nearest (s : Slot) : Type 0 where
+    pub below : s.index < 2 ^ slots
+    pub wanted_bit : has_bit mask s.index ≡ wanted
+    pub there : s.index ≡ (pos + s.distance) % 2 ^ slots
+    pub within : s.distance < 2 ^ slots
+    pub nearer : (k : ℕ) → k < s.distance → has_bit mask ((pos + k) % 2 ^ slots) ≡ not wanted
 
   -- what the search answers is the nearest slot as wanted, or that no slot is
-  abbrev pub Outcome : Found → Type 0
-  Outcome (At s far) = Nearest s far
-  Outcome Nothing = (s : ℕ) → s < 2 ^ slots → has_bit mask s ≡ not wanted
+  abbrev pub Outcome : Option Slot → Type 0
+  Outcome (Some s) = Nearest s
+  Outcome None = (s : ℕ) → s < 2 ^ slots → has_bit mask s ≡ not wanted
 
   pub outcome : pos ≤ 2 ^ slots → Outcome (find_slot mask pos slots wanted)
-  unfolding find_slot
-  outcome p = go (ltb d n) refl
+  outcome p = go (find_slot mask pos slots wanted) (searched as_wanted (slot_at pos n) 0 n)
     where
       n : ℕ
       n = 2 ^ slots
 
-      d : ℕ
-      d = first (as_wanted mask pos n wanted) n 0
+      as_wanted : Slot → Bool
+      as_wanted s = beq (has_bit mask s.index) wanted
 
-      f : IsFirst (as_wanted mask pos n wanted) n d
-      f = first_is (as_wanted mask pos n wanted) n
-
-      go : (b : Bool) → ltb d n ≡ b → Outcome (found_if b ((pos + d) % n) d)
-      go true e =
-          let l : d < n = ltb-true d n e in
-          record {
-            below = mod-lt (pos + d) (pow_pos slots);
-            wanted_bit = beq_true (has_bit mask ((pos + d) % n)) wanted (f.here l);
+      go : (r : Option Slot) → Searched as_wanted (slot_at pos n) 0 n r → Outcome r
+      go (Some s) f =
+          rw f.made
+          (record {
+            below = mod-lt (pos + f.at) (pow_pos slots);
+            wanted_bit = beq_true (has_bit mask ((pos + f.at) % n)) wanted f.passes;
             there = refl;
-            within = l;
-            nearer = λ k h. beq_false (has_bit mask ((pos + k) % n)) wanted (f.before k h);
-          }
-      go false e =
+            within = omega (arith, f.high);
+            nearer = λ k h. beq_false (has_bit mask ((pos + k) % n)) wanted (f.before k (omega arith) h);
+          })
+      go None f =
           λ s l.
           let q = steps n pos s p l in
-          rw (← q.2) (beq_false (has_bit mask ((pos + q.0) % n)) wanted (f.before q.0 (omega (arith, q.1, ltb-false d n e))))
+          rw (← q.2) (beq_false (has_bit mask ((pos + q.0) % n)) wanted (f q.0 (omega arith) (omega (arith, q.1))))
 
-  pub nothing_if : pos ≤ 2 ^ slots → ((s : ℕ) → s < 2 ^ slots → has_bit mask s ≡ not wanted) → find_slot mask pos slots wanted ≡ Nothing
+  pub nothing_if : pos ≤ 2 ^ slots → ((s : ℕ) → s < 2 ^ slots → has_bit mask s ≡ not wanted) → find_slot mask pos slots wanted ≡ None
   nothing_if p h = go (find_slot mask pos slots wanted) (outcome p)
     where
-      go : (r : Found) → Outcome r → r ≡ Nothing
-      go (At s far) o = absurd (neq wanted (sym o.wanted_bit ∙ h s o.below))
-      go Nothing o = refl
+      neq : (b : Bool) → b ≡ not b → ⊥
+      neq true e = true≢false e
+      neq false e = false≢true e
+
+      go : (r : Option Slot) → Outcome r → r ≡ None
+      go (Some s) o = absurd (neq wanted (sym o.wanted_bit ∙ h s.index o.below))
+      go None o = refl
 
 -- fewer set bits than slots: some slot is free
-pub room : (mask pos slots : ℕ) → pos ≤ 2 ^ slots → ones mask < 2 ^ slots → find_slot mask pos slots false ≡ Nothing → ⊥
+pub room : (mask pos slots : ℕ) → pos ≤ 2 ^ slots → ones mask < 2 ^ slots → find_slot mask pos slots false ≡ None → ⊥
 room mask pos slots p l e =
-    let none : Outcome mask pos slots false Nothing = rw e at (outcome mask pos slots false p) in
+    let none : Outcome mask pos slots false None = rw e at (outcome mask pos slots false p) in
     omega (arith, ones_full (2 ^ slots) mask (λ i k. has_bit_lem mask i (none i k)))

@@ -4,13 +4,13 @@
 
 ghost use Rattle.std.specs.Prelude.{◌≡◌, ◌^◌, ◌<◌, ◌≤◌, ltb};
 ghost use Rattle.bits.specs.Bits.{put_bit, has_bit, within};
-ghost use Rattle.bits.specs.Slots.{find_slot};
+ghost use Rattle.bits.specs.Slots.{nearest, find_slot};
 
-// What a search for a slot finds: the slot, and how many steps from the position it lies.
-#[derive(Clone, Copy)]
-pub enum Found {
-    At { slot: u32, far: u32 },
-    Nothing,
+// A slot that a search found, and how many steps from the position it lies.
+#[derive(Clone, Copy, PartialEq, Eq)]
+pub struct Slot {
+    pub index: u32,
+    pub distance: u32,
 }
 
 // 2 to the i.
@@ -22,13 +22,14 @@ pub fn power(i: u64) -> u64
 }
 
 // Does no bit stand at 2^slots or above?
+#[tactic(auto, using(crate::proofs::BitLaws::counts))]
 pub fn below(mask: u32, slots: u64) -> bool
     requires { slots ≤ 5 }
     ensures { result ≡ ltb mask (2 ^ (2 ^ slots)) }
 {
     let n = power(slots);
     let end = power(n);
-    (mask as u64) < end
+    u64::from(mask) < end
 }
 
 // Is every bit of `inner` also one of `outer`?
@@ -47,6 +48,7 @@ pub fn test(mask: u32, i: u32) -> bool
 }
 
 // The mask with bit i set.
+#[tactic(auto, using(crate::proofs::BitLaws::set_as))]
 pub fn set(mask: u32, i: u32) -> u32
     requires { i < 32 }
     ensures { result ≡ put_bit mask i 1 }
@@ -55,6 +57,7 @@ pub fn set(mask: u32, i: u32) -> u32
 }
 
 // The mask with bit i clear.
+#[tactic(auto, using(crate::proofs::BitLaws::clear_as))]
 pub fn clear(mask: u32, i: u32) -> u32
     requires { i < 32 }
     ensures { result ≡ put_bit mask i 0 }
@@ -62,21 +65,24 @@ pub fn clear(mask: u32, i: u32) -> u32
     mask & !(1 << i)
 }
 
+// The first of n slots from pos, going round, whose bit is as wanted.
+fn nearest(mask: u32, pos: u32, n: u32, wanted: bool) -> Option<Slot>
+    requires { (0 < n) × (n ≤ 32) × (pos ≤ n) }
+    ensures { result ≡ nearest mask pos n wanted }
+{
+    (0..n)
+        .map(|distance| Slot {
+            index: (pos + distance) % n,
+            distance,
+        })
+        .find(|s| test(mask, s.index) == wanted)
+}
+
 // The first slot from pos, going round the 2^slots, whose bit is as wanted.
-pub fn find_slot(mask: u32, pos: u32, slots: u32, wanted: bool) -> Found
+#[tactic(auto, using(crate::proofs::BitLaws::counts))]
+pub fn find_slot(mask: u32, pos: u32, slots: u32, wanted: bool) -> Option<Slot>
     requires { (slots ≤ 5) × (pos ≤ 2 ^ slots) }
     ensures { result ≡ find_slot mask pos slots wanted }
 {
-    let n: u32 = 1 << slots;
-    let mut far: u32 = 0;
-    // carried from step to step: a slot made of far alone would become vector code, which needs more stack
-    let mut slot = pos % n;
-    while far < n {
-        if test(mask, slot) == wanted {
-            return Found::At { slot, far };
-        }
-        slot = (slot + 1) % n;
-        far += 1;
-    }
-    Found::Nothing
+    nearest(mask, pos, 1 << slots, wanted)
 }

@@ -1,85 +1,320 @@
-// What the table says of the open channels, for the sheet and the drawing alike; no function asks anything of its slices.
-// Endpoint e of tile t has the number 64 t + e on the board; a number that the lent words do not reach reads as INVALID.
+// What the table says of the open channels, for the sheet and the drawing alike.
 #![tactic(auto)]
 
-ghost use Rattle.std.specs.Prelude.{◌≤◌};
+ghost use Rattle.std.specs.Prelude.{◌≡◌, ◌+◌, ◌*◌, ◌<◌, ◌≤◌, length, OnOk, IfOk, Some, IsTrue, ◌↔◌, ◌≢◌, ◌^◌, nat_lt, if◌then◌else◌};
+ghost use Rattle.std.specs.Iterator.{at_most};
+ghost use Rattle.channels.specs.Phrases.{place};
+ghost use Rattle.channels.specs.Aims.{reached};
+ghost use Rattle.board.specs.Board.{size_of};
 
 use board::Board;
 use endpoint::{Endpoint, MemoryFields, ReceiveFields, SendFields, Words};
+use std::fmt;
 
 pub mod phrases;
 
-// Whether a board and what was lent for it can be told at all; a table with an endpoint that is not acceptable cannot, since the
-// machine refuses all of it.
-#[derive(Clone, Copy)]
-pub enum Fit {
-    Right,
-    BadBoard,
-    WrongLengths,
-    Unacceptable(u64),
+// Endpoint `ep` of a tile.
+#[derive(Clone, Copy, Debug, PartialEq, Eq)]
+pub struct Place {
+    pub tile: usize,
+    pub ep: usize,
 }
 
-// What a send or a memory endpoint aims at.
-#[derive(Clone, Copy)]
-pub enum Target {
-    There,
-    PastMemory,
-    NoChip,
-    NoTile,
-    NoReceiver,
+impl Place {
+    fn of(number: usize) -> Place {
+        Place {
+            tile: number / 64,
+            ep: number % 64,
+        }
+    }
 }
 
-// What can be asked of an endpoint.
-#[derive(Clone, Copy)]
-pub enum Question {
-    IsUnacceptable,
-    IsOpen,
-    AimsAtNothing,
-    ReachesMemoryOf(u64),
-    SendsTo(u64),
+impl fmt::Display for Place {
+    ghost output = { λ p. Some (place p.tile p.ep) };
+
+    fn fmt<W: fmt::Write>(&self, f: &mut fmt::Formatter<W>) -> fmt::Result {
+        write!(f, "{}:{}", self.tile, self.ep)
+    }
 }
 
-// The board's tiles; an allowed board has at most 8.
-pub fn tiles(b: Board) -> u64
-    ensures { result ≤ 8 }
+// Why the channels of a board cannot be told. A table with an endpoint that is not acceptable is one, since the machine refuses all
+// of it.
+#[derive(Clone, Copy, Debug, PartialEq, Eq)]
+pub enum Misfit {
+    Tiles(u64),
+    Pages {
+        tile: u64,
+        pages: u64,
+    },
+    Lengths {
+        tiles: u8,
+        words: usize,
+        activities: usize,
+    },
+    Unacceptable(Place),
+}
+
+// What is not there, where an endpoint aims.
+#[derive(Clone, Copy, Debug, PartialEq, Eq)]
+pub enum Missing {
+    Chip(u8),
+    Tile(u8),
+    Receiver,
+}
+
+// How the range that a memory endpoint reaches lies in its tile's memory.
+#[derive(Clone, Copy, Debug, PartialEq, Eq)]
+pub enum Reach {
+    Inside,
+    PastTheEnd,
+}
+
+// A board of which each endpoint is acceptable, its table, and the activity that runs on each tile.
+#[derive(Clone, Copy)]
+pub struct Channels<'a> {
+    board: Board,
+    words: &'a [u64],
+    running: &'a [u16],
+    ghost few: { board.tiles ≤ 8 },
+    ghost whole_table: { length words.now ≡ board.tiles * 192 },
+}
+
+// The endpoints of a part of the table, each with its place.
+#[derive(Drop)]
+pub struct Endpoints<'a> {
+    words: &'a [u64],
+    number: usize,
+    ghost on_a_board: { number * 3 + length words.now ≤ 1536 },
+}
+
+impl<'a> Iterator for Endpoints<'a> {
+    type Item = (Place, Endpoint);
+
+    ghost remaining = { λ s. at_most (length s.words.now) };
+
+    fn next(&mut self) -> Option<(Place, Endpoint)> {
+        let ([first, second, third], words) = self.words.split_first_chunk::<3>()?;
+        let place = Place::of(self.number);
+        let e = endpoint::fields_of(Words {
+            first: *first,
+            second: *second,
+            third: *third,
+        });
+        *self = Endpoints {
+            words,
+            number: self.number + 1,
+        };
+        Some((place, e))
+    }
+}
+
+// The endpoints that send to one.
+#[derive(Drop)]
+pub struct Senders<'a> {
+    endpoints: Endpoints<'a>,
+    receiver: Place,
+}
+
+impl<'a> Iterator for Senders<'a> {
+    type Item = Place;
+
+    ghost remaining = { λ s. at_most (length s.endpoints.words.now) };
+
+    fn next(&mut self) -> Option<Place> {
+        let receiver = self.receiver;
+        let (place, _) = self.endpoints.find(|(_, e)| sends_to(*e, receiver))?;
+        Some(place)
+    }
+}
+
+// ---- what can be told
+
+fn check_board(b: Board) -> Result<(), Misfit>
+    ensures { OnOk result (b.tiles ≤ 8) }
 {
-    if b.tiles <= 8 { b.tiles } else { 0 }
+    if b.tiles == 0 || b.tiles > 8 {
+        return Err(Misfit::Tiles(b.tiles));
+    }
+    match (0..b.tiles).find(|tile| !board::memory_allowed(board::size(b, *tile))) {
+        Some(tile) => Err(Misfit::Pages {
+            tile,
+            pages: board::size(b, tile) / 4096,
+        }),
+        None => Ok(()),
+    }
 }
 
-fn words_at(words: &[u64], number: u64) -> Words {
-    if number < 512 {
-        let n = number as usize;
-        if n * 3 + 2 < words.len() {
-            return table::read_nth(words, n);
+// A receive endpoint's buffer has to fit the memory of its own tile.
+fn is_acceptable(b: Board, words: &[u64], number: usize) -> bool
+    requires { (number < 512) × (number * 3 + 2 < length words.now) }
+{
+    let memory = board::size(b, (number / 64) as u64);
+    endpoint::acceptable_words(memory, table::read_nth(words, number))
+}
+
+fn first_unacceptable(b: Board, words: &[u64]) -> Option<usize>
+    requires { (b.tiles ≤ 8) × (length words.now ≡ b.tiles * 192) }
+{
+    (0..words.len() / 3).find(|number| !is_acceptable(b, words, *number))
+}
+
+impl<'a> Channels<'a> {
+    pub fn of(board: Board, words: &'a [u64], running: &'a [u16]) -> Result<Channels<'a>, Misfit>
+        ensures { IfOk result (λ c. (c.board ≡ board) × (c.words.now ≡ words.now) × (c.running.now ≡ running.now)) }
+    {
+        check_board(board)?;
+        let tiles = board.tiles;
+        if words.len() as u64 != tiles * 192 || running.len() as u64 != tiles {
+            return Err(Misfit::Lengths {
+                tiles: tiles as u8,
+                words: words.len(),
+                activities: running.len(),
+            });
+        }
+        if let Some(number) = first_unacceptable(board, words) {
+            return Err(Misfit::Unacceptable(Place::of(number)));
+        }
+        Ok(Channels {
+            board,
+            words,
+            running,
+        })
+    }
+
+    // The activity that runs on each tile.
+    pub fn running(&self) -> &'a [u16]
+        ensures { result.now ≡ self.now.running.now }
+    {
+        self.running
+    }
+
+    // How many bytes of memory a tile has.
+    pub fn memory(&self, tile: usize) -> u64
+        ensures { result ≡ size_of self.now.board tile }
+    {
+        board::size(self.board, tile as u64)
+    }
+
+    pub fn endpoints(&self) -> Endpoints<'a> {
+        Endpoints {
+            words: self.words,
+            number: 0,
         }
     }
-    Words {
-        first: 0,
-        second: 0,
-        third: 0,
-    }
-}
 
-pub fn endpoint_at(words: &[u64], number: u64) -> Endpoint {
-    endpoint::fields_of(words_at(words, number))
-}
-
-pub fn activity(acts: &[u16], tile: u64) -> u16 {
-    if tile < 8 {
-        let t = tile as usize;
-        if t < acts.len() {
-            return acts[t];
+    // The endpoints of a tile.
+    pub fn endpoints_of(&self, tile: usize) -> Endpoints<'a> {
+        if tile as u64 >= self.board.tiles {
+            return Endpoints {
+                words: &[],
+                number: 0,
+            };
+        }
+        Endpoints {
+            words: &self.words[tile * 192..tile * 192 + 192],
+            number: tile * 64,
         }
     }
-    0
+
+    pub fn has_open(&self, tile: usize) -> bool {
+        self.endpoints_of(tile).any(|(_, e)| is_open(e))
+    }
+
+    // The endpoints that send to the receive endpoint there, but for those that reply once.
+    pub fn senders(&self, receiver: Place) -> Senders<'a> {
+        Senders {
+            endpoints: self.endpoints(),
+            receiver,
+        }
+    }
+
+    fn is_receiver(&self, tile: u8, ep: u16) -> bool {
+        let aimed = Place {
+            tile: usize::from(tile),
+            ep: usize::from(ep),
+        };
+        self.endpoints().any(|(place, e)| place == aimed && matches!(e, Endpoint::Receive(_)))
+    }
+
+    // Whether there is what a send endpoint aims at.
+    pub fn receiver(&self, s: SendFields) -> Result<(), Missing> {
+        if s.tgt_chip != 0 {
+            return Err(Missing::Chip(s.tgt_chip));
+        }
+        if u64::from(s.tgt_tile) >= self.board.tiles {
+            return Err(Missing::Tile(s.tgt_tile));
+        }
+        if !self.is_receiver(s.tgt_tile, s.tgt_ep) {
+            return Err(Missing::Receiver);
+        }
+        Ok(())
+    }
+
+    // What a memory endpoint reaches.
+    pub fn reach(&self, m: MemoryFields) -> Result<Reach, Missing>
+        ensures { result ≡ reached self.now.board m }
+    {
+        if m.chip != 0 {
+            return Err(Missing::Chip(m.chip));
+        }
+        if u64::from(m.tile) >= self.board.tiles {
+            return Err(Missing::Tile(m.tile));
+        }
+        if numbers::sum_above(m.addr, m.size, self.memory(usize::from(m.tile))) {
+            return Ok(Reach::PastTheEnd);
+        }
+        Ok(Reach::Inside)
+    }
+
+    // Does the endpoint aim at nothing?
+    fn is_astray(&self, e: Endpoint) -> bool {
+        match e {
+            Endpoint::Send(s) => self.receiver(s).is_err(),
+            Endpoint::Memory(m) => self.reach(m).is_err(),
+            _ => false,
+        }
+    }
+
+    pub fn any_astray(&self) -> bool {
+        self.endpoints().any(|(_, e)| self.is_astray(e))
+    }
+
+    // Does any endpoint reach the memory of that tile?
+    pub fn is_shared(&self, tile: usize) -> bool {
+        self.endpoints().any(|(_, e)| reaches_memory_of(e, tile))
+    }
 }
 
-// 2 to the i; sizes and slots are given so.
-pub fn power(i: u8) -> u64 {
-    if i < 64 {
-        return bits::power(i as u64);
+// ---- what is asked of one endpoint
+
+pub fn is_open(e: Endpoint) -> bool
+    ensures { IsTrue result ↔ (e ≢ Endpoint.Invalid) }
+{
+    !matches!(e, Endpoint::Invalid)
+}
+
+fn reaches_memory_of(e: Endpoint, tile: usize) -> bool {
+    match e {
+        Endpoint::Memory(m) => m.chip == 0 && usize::from(m.tile) == tile,
+        _ => false,
     }
-    0
+}
+
+// Does the endpoint send to the receive endpoint there, and not only reply once?
+fn sends_to(e: Endpoint, receiver: Place) -> bool {
+    match e {
+        Endpoint::Send(s) if !s.reply && s.tgt_chip == 0 => {
+            usize::from(s.tgt_tile) == receiver.tile && usize::from(s.tgt_ep) == receiver.ep
+        }
+        _ => false,
+    }
+}
+
+// 2 to the i, or 0 where that is past 64 bits; sizes and slots are given so.
+pub fn power(i: u8) -> u64
+    ensures { result ≡ if nat_lt i 64 then 2 ^ i else 0 }
+{
+    1u64.checked_shl(u32::from(i)).unwrap_or(0)
 }
 
 // The slots of a receive endpoint; an acceptable one has at most 32.
@@ -88,149 +323,4 @@ pub fn slots(r: ReceiveFields) -> u64
 {
     let n = power(r.slots);
     if n <= 32 { n } else { 0 }
-}
-
-fn wide(x: u32) -> u64 {
-    x as u64
-}
-
-// How many bits of a mask are set.
-pub fn ones(mask: u32) -> u64 {
-    wide(u32::count_ones(mask))
-}
-
-// ---- targets
-
-fn is_receiver(words: &[u64], tile: u8, ep: u16) -> bool {
-    if 64 <= ep {
-        return false;
-    }
-    let e = endpoint_at(words, tile as u64 * 64 + ep as u64);
-    match e {
-        Endpoint::Receive(_) => true,
-        _ => false,
-    }
-}
-
-pub fn send_target(b: Board, words: &[u64], s: SendFields) -> Target {
-    if s.tgt_chip != 0 {
-        return Target::NoChip;
-    }
-    if b.tiles <= s.tgt_tile as u64 {
-        return Target::NoTile;
-    }
-    if !is_receiver(words, s.tgt_tile, s.tgt_ep) {
-        return Target::NoReceiver;
-    }
-    Target::There
-}
-
-pub fn memory_target(b: Board, m: MemoryFields) -> Target {
-    if m.chip != 0 {
-        return Target::NoChip;
-    }
-    if b.tiles <= m.tile as u64 {
-        return Target::NoTile;
-    }
-    let memory = board::size(b, m.tile as u64);
-    if numbers::sum_above(m.addr, m.size, memory) {
-        return Target::PastMemory;
-    }
-    Target::There
-}
-
-fn is_nothing(t: Target) -> bool {
-    match t {
-        Target::There | Target::PastMemory => false,
-        _ => true,
-    }
-}
-
-// ---- questions
-
-// A receive endpoint's buffer has to fit the memory of its own tile.
-fn is_unacceptable(b: Board, words: &[u64], number: u64) -> bool {
-    let memory = board::size(b, number / 64);
-    !endpoint::acceptable_words(memory, words_at(words, number))
-}
-
-fn is_open(words: &[u64], number: u64) -> bool {
-    let e = endpoint_at(words, number);
-    match e {
-        Endpoint::Invalid => false,
-        _ => true,
-    }
-}
-
-fn aims_at_nothing(b: Board, words: &[u64], number: u64) -> bool {
-    let e = endpoint_at(words, number);
-    match e {
-        Endpoint::Send(s) => is_nothing(send_target(b, words, s)),
-        Endpoint::Memory(m) => is_nothing(memory_target(b, m)),
-        _ => false,
-    }
-}
-
-fn reaches_memory_of(words: &[u64], number: u64, tile: u64) -> bool {
-    let e = endpoint_at(words, number);
-    let Endpoint::Memory(m) = e else {
-        return false;
-    };
-    (m.chip == 0) & (m.tile as u64 == tile)
-}
-
-// Does the endpoint send to the receive endpoint of that number? Those that reply once are left out.
-fn sends_to(words: &[u64], number: u64, receiver: u64) -> bool {
-    let e = endpoint_at(words, number);
-    let Endpoint::Send(s) = e else {
-        return false;
-    };
-    let aimed = (s.tgt_chip == 0) & (s.tgt_ep < 64);
-    let there = s.tgt_tile as u64 * 64 + s.tgt_ep as u64 == receiver;
-    !s.reply & (aimed & there)
-}
-
-fn holds(b: Board, words: &[u64], number: u64, asked: Question) -> bool {
-    match asked {
-        Question::IsUnacceptable => is_unacceptable(b, words, number),
-        Question::IsOpen => is_open(words, number),
-        Question::AimsAtNothing => aims_at_nothing(b, words, number),
-        Question::ReachesMemoryOf(tile) => reaches_memory_of(words, number, tile),
-        Question::SendsTo(receiver) => sends_to(words, number, receiver),
-    }
-}
-
-// The first endpoint from `from` on, below `end`, of which the answer is yes; a number not below `end` where there is none.
-pub fn first(b: Board, words: &[u64], from: u64, end: u64, asked: Question) -> u64
-    ensures { from ≤ result }
-{
-    let mut number = from;
-    while number < end {
-        if holds(b, words, number, asked) {
-            return number;
-        }
-        number = number + 1;
-    }
-    number
-}
-
-// Is the answer yes of any endpoint of the board?
-pub fn any(b: Board, words: &[u64], asked: Question) -> bool {
-    let end = tiles(b) * 64;
-    first(b, words, 0, end, asked) < end
-}
-
-pub fn fit_of(b: Board, words: &[u64], acts: &[u16]) -> Fit {
-    if !board::board_allowed(b) {
-        return Fit::BadBoard;
-    }
-    let n = tiles(b);
-    if (words.len() as u64 != n * 192) | (acts.len() as u64 != n) {
-        return Fit::WrongLengths;
-    }
-    let number = first(b, words, 0, n * 64, Question::IsUnacceptable);
-    if number < n * 64 {
-        return Fit::Unacceptable(number);
-    }
-    Fit::Right
 }

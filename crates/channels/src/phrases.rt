@@ -1,81 +1,80 @@
 // What the sheet and the drawing say alike.
-use crate::{Fit, Target};
-use board::Board;
-use form::say;
-use std::io::{self, Write};
+ghost use Rattle.std.specs.Prelude.{Some};
+ghost use Rattle.channels.specs.Phrases.{tile, credits, missing, misfit};
 
-pub fn tile<W: Write>(out: &mut W, number: u64, running: u16) -> io::Result<()> {
-    say(out, b"tile #, activity #", &[number, running as u64])
+use crate::{Misfit, Missing};
+use endpoint::SendFields;
+use form::Plural;
+use std::fmt;
+
+// A tile, and the activity that runs on it.
+#[derive(Clone, Copy)]
+pub struct Tile {
+    pub number: usize,
+    pub running: u16,
 }
 
-// The machine asks only cur_crd whether the credits are unlimited.
-pub fn credits<W: Write>(out: &mut W, cur_crd: u8, max_crd: u8) -> io::Result<()> {
-    if cur_crd == 63 {
-        return output::text(out, b"unlimited credits");
-    }
-    say(
-        out,
-        b"# of # credits left",
-        &[cur_crd as u64, max_crd as u64],
-    )
-}
+impl fmt::Display for Tile {
+    ghost output = { λ t. Some (tile t.number t.running) };
 
-// Why there is nothing where an endpoint aims.
-pub fn missing<W: Write>(out: &mut W, t: Target, chip: u8, tile: u8) -> io::Result<()> {
-    match t {
-        Target::There | Target::PastMemory => Ok(()),
-        Target::NoChip => say(out, b"no chip #", &[chip as u64]),
-        Target::NoTile => say(out, b"no tile #", &[tile as u64]),
-        Target::NoReceiver => output::text(out, b"no receive endpoint"),
+    fn fmt<W: fmt::Write>(&self, f: &mut fmt::Formatter<W>) -> fmt::Result {
+        write!(f, "tile {}, activity {}", self.number, self.running)
     }
 }
 
-// The first tile whose memory has no allowed size.
-fn bad_tile(b: Board) -> u64 {
-    let mut tile: u64 = 0;
-    while tile < 8 {
-        if !board::memory_allowed(board::size(b, tile)) {
-            return tile;
+// The credits of a send endpoint. The machine asks only cur_crd whether they are unlimited.
+#[derive(Clone, Copy)]
+pub struct Credits(pub SendFields);
+
+impl fmt::Display for Credits {
+    ghost output = { λ c. Some (credits c.0.cur_crd c.0.max_crd) };
+
+    fn fmt<W: fmt::Write>(&self, f: &mut fmt::Formatter<W>) -> fmt::Result {
+        match self.0.cur_crd {
+            63 => f.write_str("unlimited credits"),
+            left => write!(f, "{left} of {} credits left", self.0.max_crd),
         }
-        tile = tile + 1;
     }
-    tile
 }
 
-fn bad_board<W: Write>(out: &mut W, b: Board) -> io::Result<()> {
-    if crate::tiles(b) == 0 {
-        return say(out, b"# tiles are not allowed", &[b.tiles]);
+impl fmt::Display for Missing {
+    ghost output = { λ m. Some (missing m) };
+
+    fn fmt<W: fmt::Write>(&self, f: &mut fmt::Formatter<W>) -> fmt::Result {
+        match self {
+            Missing::Chip(chip) => write!(f, "no chip {chip}"),
+            Missing::Tile(tile) => write!(f, "no tile {tile}"),
+            Missing::Receiver => f.write_str("no receive endpoint"),
+        }
     }
-    let tile = bad_tile(b);
-    let pages = board::size(b, tile) / 4096;
-    say(out, b"tile # with # pages is not allowed", &[tile, pages])
 }
 
-fn wrong_lengths<W: Write>(out: &mut W, b: Board, words: u64, acts: u64) -> io::Result<()> {
-    let n = crate::tiles(b);
-    say(
-        out,
-        b"for # tile^ # words and # activities are needed",
-        &[n, n, n * 192, n],
-    )?;
-    say(out, b", and here are # and #", &[words, acts])
-}
+impl fmt::Display for Misfit {
+    ghost output = { λ m. Some (misfit m) };
 
-// Why a board cannot be told, and nothing where it can.
-pub fn refusal<W: Write>(
-    out: &mut W,
-    b: Board,
-    words: &[u64],
-    acts: &[u16],
-    f: Fit,
-) -> io::Result<()> {
-    match f {
-        Fit::Right => Ok(()),
-        Fit::BadBoard => bad_board(out, b),
-        Fit::WrongLengths => { wrong_lengths(out, b, words.len() as u64, acts.len() as u64) }
-        Fit::Unacceptable(number) => {
-            let v = [number / 64, number % 64];
-            say(out, b"the words of endpoint #:# are not acceptable", &v)
+    #[tactic(auto, using(std::proofs::Common::append_assoc))]
+    fn fmt<W: fmt::Write>(&self, f: &mut fmt::Formatter<W>) -> fmt::Result {
+        match *self {
+            Misfit::Tiles(tiles) => write!(f, "{tiles} tiles are not allowed"),
+            Misfit::Pages { tile, pages } => {
+                write!(f, "tile {tile} with {pages} pages is not allowed")
+            }
+            Misfit::Lengths {
+                tiles,
+                words,
+                activities,
+            } => {
+                let s = Plural(u64::from(tiles));
+                let wanted = u64::from(tiles) * 192;
+                write!(
+                    f,
+                    "for {tiles} tile{s} {wanted} words and {tiles} activities are needed, \
+                    and here are {words} and {activities}"
+                )
+            }
+            Misfit::Unacceptable(place) => {
+                write!(f, "the words of endpoint {place} are not acceptable")
+            }
         }
     }
 }

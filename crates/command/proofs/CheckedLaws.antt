@@ -1,14 +1,14 @@
 -- What a checked machine gives the commands. Assumes nothing.
 use Prim.Native.Nat.{ℕ, ◌+◌, ◌*◌, ◌/◌, ◌<◌, ◌≤◌}
-use mathlib.Core.Bool.{Bool, true, false}
+use mathlib.Core.Bool.{Bool, true, false, cond}
 use mathlib.Core.List.{List}
 use mathlib.Core.Path.{◌≡◌, refl, sym, ap, ◌∙◌}
 use native.Mathlib.Omega.{arith}
-use borrow.Author.Tests.{leb-false}
-use lib.Dec.{leb}
+use borrow.Author.Tests.{ltb-true}
+use lib.Dec.{ltb}
 use lib.ListN.{length}
-use Rattle.numbers.specs.Choice.{◌gives◌else◌}
-use Rattle.board.specs.Board.{size_of}
+use Rattle.board.specs.Board.{allowed, size_of, start_of, bytes_of}
+use Rattle.board.proofs.BoardLaws.{tile_inside, bounds}
 use Rattle.board.specs.declared.Board.{Board}
 use Rattle.endpoint.specs.Kinds.{is_invalid}
 use Rattle.endpoint.specs.Acceptable.{acceptable}
@@ -19,6 +19,15 @@ use Rattle.endpoint.specs.declared.ReceiveFields.{ReceiveFields}
 use Rattle.table.specs.Table.{Table, place, endpoint_at, view}
 use Rattle.table.proofs.TableLaws.{live, good_at}
 use Rattle.command.specs.Checked.{Checked}
+
+-- a tile's memory lies among the lent bytes, and they are few
+pub memory_inside : (b : Board) (tile : ℕ) → allowed b ≡ true → tile < b.tiles → start_of b tile + size_of b tile ≤ bytes_of b
+memory_inside b tile a h = tile_inside b tile h
+
+pub memory_few : (b : Board) (tile : ℕ) → allowed b ≡ true → tile < b.tiles → start_of b tile + size_of b tile ≤ 524288
+memory_few b tile a h = omega (arith, tile_inside b tile h, (bounds b a).total)
+
+pub ruleset places = (memory_inside, memory_few)
 
 -- the words of a tile that exists are among the lent ones
 pub tile_words : (b : Board) (n tile : ℕ) → n ≡ b.tiles * 192 → tile < b.tiles → tile * 192 + 192 ≤ n
@@ -36,13 +45,13 @@ live_receive o t tile ep r q p = live t tile ep (ap is_invalid (sym q ∙ p))
 
 -- whatever is read of a tile that exists is acceptable there
 pub read_acceptable : (b : Board) (ws : List ℕ) (tile at ep : ℕ) → Checked b ws tile → at < b.tiles → acceptable (size_of b at) (endpoint_at (view ws) at ep) ≡ true
-unfolding endpoint_at ◌gives◌else◌ acceptable
-read_acceptable b ws tile at ep c l = go (leb 64 ep) refl
+unfolding endpoint_at acceptable
+read_acceptable b ws tile at ep c l = go (ltb ep 64) refl
   where
-    go : (x : Bool) → leb 64 ep ≡ x → acceptable (size_of b at) (x gives Invalid else view ws (place at ep)) ≡ true
-    go true e = refl
-    go false e =
-        let h : ep < 64 = leb-false 64 ep e in
+    go : (x : Bool) → ltb ep 64 ≡ x → acceptable (size_of b at) (cond x (view ws (place at ep)) Invalid) ≡ true
+    go false e = refl
+    go true e =
+        let h : ep < 64 = ltb-true ep 64 e in
         let q : place at ep / 64 ≡ at = omega arith in
         rw q at (good_at b ws c.good (place at ep) (omega arith))
 

@@ -1,14 +1,13 @@
 // What a command is (document 01, "The commands, checks in order"): the registers that it is given, an ordered list of checks,
 // and what it does where none holds. Here are the shapes that all commands share, the page rule and the local range.
+// The board, the words, the records and the bytes go through the commands as they are lent, each by itself: so a type says that a FETCH
+// touches no byte and that a configuration only reads records and bytes, as C lends them. `Checked` is what a command asks of them.
 #![tactic(auto)]
 
-ghost use Rattle.std.specs.Prelude.{◌≡◌, true, ◌<◌, ◌≤◌};
-ghost use Rattle.board.specs.Board.{allowed, size_of};
-ghost use Rattle.answers.specs.declared.Answer.TheVariants.{Refused};
-ghost use Rattle.command.specs.Local.{crosses_page, outside, local_at};
-ghost use Rattle.command.specs.Outcome.{completes};
+ghost use Rattle.std.specs.Prelude.{◌≡◌, true, ◌+◌, ◌<◌, ◌≤◌};
+ghost use Rattle.board.specs.Board.{allowed, size_of, start_of, bytes_of};
+ghost use Rattle.command.specs.Local.{crosses_page, outside};
 
-use answers::{Answer, Error};
 use board::Board;
 use sharing::Note;
 
@@ -21,26 +20,15 @@ pub struct Registers {
     pub arg1: u64,
 }
 
-// What a command comes back with: the answer, ARG_1 afterwards, and what is noted in the sharing records.
+// What a command that is not refused comes back with: ARG_1 afterwards, and what is noted in the sharing records.
 #[derive(Clone, Copy)]
 pub struct Completion {
-    pub answer: Answer,
     pub arg1: u64,
     pub note: Note,
 }
 
-// A refusal: ARG_1 comes back as given, and nothing is noted.
-pub fn refuse(e: Error, arg1: u64) -> Completion
-    ensures { result ≡ completes (Refused e) arg1 }
-{
-    Completion {
-        answer: Answer::Refused(e),
-        arg1,
-        note: Note::Nothing,
-    }
-}
-
 // The page rule.
+#[tactic(auto, unfolding(crate::specs::Local::crosses_page))]
 pub fn crosses_page(a: Registers) -> bool
     ensures { result ≡ crosses_page a }
 {
@@ -48,6 +36,7 @@ pub fn crosses_page(a: Registers) -> bool
 }
 
 // Is the local range outside the tile's memory?
+#[tactic(auto, unfolding(crate::specs::Local::outside))]
 pub fn leaves_tile(b: Board, tile: u64, a: Registers) -> bool
     ensures { result ≡ outside b tile a }
 {
@@ -55,10 +44,13 @@ pub fn leaves_tile(b: Board, tile: u64, a: Registers) -> bool
     numbers::sum_above(a.addr, a.size, memory)
 }
 
-// Where the local range starts among the bytes of all tiles.
-pub fn local_at(b: Board, tile: u64, a: Registers) -> u64
-    requires { (allowed b ≡ true) × (tile < b.tiles) × (a.addr ≤ size_of b tile) }
-    ensures { result ≡ local_at b tile a }
+// Where size bytes of a tile's memory from address `at` on start among the bytes of all tiles. The size is read by the clauses alone: with
+// it the place says that they all lie there.
+#[tactic(auto, using(crate::proofs::CheckedLaws::places))]
+pub fn place(b: Board, tile: u64, at: u64, size: u64) -> u64
+    requires { (allowed b ≡ true) × (tile < b.tiles) × (at + size ≤ size_of b tile) }
+    ensures value { result ≡ start_of b tile + at }
+    ensures inside { result + size ≤ bytes_of b }
 {
-    board::start(b, tile) + a.addr
+    board::start(b, tile) + at
 }

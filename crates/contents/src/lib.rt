@@ -1,19 +1,21 @@
 // What the tiles' memory holds: bytes put there by `bytes`, and printed by `dump`.
 #![tactic(auto)]
 
-ghost use Rattle.std.specs.Prelude.{◌<◌, ◌≤◌};
+ghost use Rattle.std.specs.Prelude.{◌≡◌, ◌≤◌, true};
+ghost use Rattle.board.specs.Board.{allowed, bytes_of, start_of};
+ghost use Rattle.contents.specs.Bytes.{with_bytes};
 
 use board::Board;
-use lexer::{Kind, Token};
 use std::io::{self, Write};
 
 // How many bytes to a line of `dump`.
-const ROW: u64 = 16;
+const ROW: usize = 16;
 
 // Where a tile's memory starts among the bytes of all tiles, and for the number of tiles where the last one's ends. The script was
 // checked: its board is allowed, and no tile is asked for that it does not have.
 fn start(b: Board, tile: u64) -> u64
-    ensures { result ≤ 524288 }
+    ensures small { result ≤ 524288 }
+    ensures right { allowed b ≡ true → tile ≤ b.tiles → result ≡ start_of b tile }
 {
     if !board::board_allowed(b) {
         return 0;
@@ -25,7 +27,10 @@ fn start(b: Board, tile: u64) -> u64
 }
 
 // The bytes of all tiles.
-pub fn bytes_of(b: Board) -> usize {
+#[tactic(auto, unfolding(board::specs::Board::bytes_of))]
+pub fn bytes_of(b: Board) -> usize
+    ensures { allowed b ≡ true → result ≡ bytes_of b }
+{
     start(b, b.tiles) as usize
 }
 
@@ -34,138 +39,41 @@ pub fn place(b: Board, tile: u64, address: u64) -> usize {
     (start(b, tile) + address % 65536) as usize
 }
 
-fn get(mem: &[u8], i: usize) -> u8 {
-    if i < mem.len() { mem[i] } else { 0 }
-}
-
-// Puts a byte, and answers where the next one goes.
-fn put(mem: &mut [u8], i: usize, b: u8) -> usize {
-    if i < mem.len() {
-        mem[i] = b;
-        return i + 1;
-    }
-    i
-}
-
-// Puts the bytes of the line from `first` up to `past`.
-fn put_text(line: &[u8], first: usize, past: usize, mem: &mut [u8], to: usize) -> usize {
-    let mut place = to;
-    let mut i = first;
-    while i < past {
-        place = put(mem, place, lexer::byte(line, i));
-        i = i + 1;
-    }
-    place
-}
-
-// Puts what a token of `bytes` says.
-fn put_token(line: &[u8], t: Token, mem: &mut [u8], to: usize) -> usize {
-    let k = t.kind;
-    match k {
-        Kind::Number(v) => put(mem, to, (v % 256) as u8),
-        _ => {
-            if t.start < t.end {
-                return put_text(line, t.start + 1, t.end - 1, mem, to);
-            }
-            to
-        }
-    }
-}
-
-// Puts the bytes that a line has from `from` on.
-pub fn put_bytes(line: &[u8], from: usize, mem: &mut [u8], to: usize) {
-    let mut place = to;
-    let mut at = from;
-    while at < line.len() {
-        let t = lexer::next(line, at);
-        if t.end <= at {
-            return;
-        }
-        place = put_token(line, t, mem, place);
-        at = t.end;
-    }
-}
-
-// How many bytes the next line has, of `n` that are left.
-fn in_row(n: u64) -> u64
-    requires { 0 < n }
-    ensures { (0 < result) × (result ≤ n) }
+// Puts bytes from a place on, as many of them as there are places.
+pub fn put(memory: &mut [u8], at: usize, bytes: &[u8])
+    ensures { memory.new ≡ with_bytes memory.old at bytes.now }
 {
-    if n < ROW { n } else { ROW }
-}
-
-fn hex_bytes<W: Write>(out: &mut W, mem: &[u8], at: usize, n: u64) -> io::Result<()> {
-    let mut i: u64 = 0;
-    while i < n {
-        output::byte(out, b' ')?;
-        output::hex(
-            out,
-            get(mem, std::num::wrapping_add_usize(at, i as usize)) as u64,
-            2,
-        )?;
-        i = i + 1;
-    }
-    Ok(())
-}
-
-fn printable(b: u8) -> u8 {
-    if b < 32 || b > 126 { b'.' } else { b }
-}
-
-fn characters<W: Write>(out: &mut W, mem: &[u8], at: usize, n: u64) -> io::Result<()> {
-    let mut i: u64 = 0;
-    while i < n {
-        output::byte(
-            out,
-            printable(get(mem, std::num::wrapping_add_usize(at, i as usize))),
-        )?;
-        i = i + 1;
-    }
-    Ok(())
-}
-
-// How many blanks stand between the bytes of a line and their characters.
-fn gap(n: u64) -> usize {
-    if n < ROW {
-        ((ROW - n) * 3 + 2) as usize
-    } else {
-        2
+    if at < memory.len() {
+        let n = bytes.len().min(memory.len() - at);
+        memory[at..at + n].copy_from_slice(&bytes[..n]);
     }
 }
 
-// TILE:ADDRESS
-fn row_start<W: Write>(out: &mut W, tile: u64, address: u64) -> io::Result<()> {
-    output::decimal(out, tile, 0)?;
-    output::text(out, b":0x")?;
-    output::hex(out, address, 4)?;
-    output::byte(out, b' ')
+fn printable(byte: u8) -> char {
+    match byte {
+        b' '..=b'~' => char::from(byte),
+        _ => '.',
+    }
 }
 
-// The bytes, and between bars what of them is printable.
-fn row<W: Write>(out: &mut W, mem: &[u8], at: usize, n: u64) -> io::Result<()> {
-    hex_bytes(out, mem, at, n)?;
-    output::blanks(out, gap(n))?;
-    output::byte(out, b'|')?;
-    characters(out, mem, at, n)?;
-    output::text(out, b"|\n")
+// TILE:ADDRESS, the bytes, and between bars what of them is printable.
+fn row<W: Write>(out: &mut W, tile: u64, address: u64, bytes: &[u8]) -> io::Result<()> {
+    write!(out, "{tile}:0x{address:04x} ")?;
+    for byte in bytes {
+        write!(out, " {byte:02x}")?;
+    }
+    let gap = ROW.saturating_sub(bytes.len()) * 3 + 2;
+    write!(out, "{:gap$}|", "")?;
+    for byte in bytes {
+        write!(out, "{}", printable(*byte))?;
+    }
+    writeln!(out, "|")
 }
 
-// `count` bytes of a tile from an address on.
-pub fn dump<W: Write>(
-    out: &mut W,
-    b: Board,
-    mem: &[u8],
-    tile: u64,
-    address: u64,
-    count: u64,
-) -> io::Result<()> {
-    let mut done: u64 = 0;
-    while done < count {
-        let n = in_row(count - done);
-        let here = std::num::wrapping_add_u64(address, done);
-        row_start(out, tile, here)?;
-        row(out, mem, place(b, tile, here), n)?;
-        done = done + n;
+// Bytes of a tile from an address on, in rows.
+pub fn dump<W: Write>(out: &mut W, tile: u64, address: u64, bytes: &[u8]) -> io::Result<()> {
+    for (address, bytes) in (address..).step_by(ROW).zip(bytes.chunks(ROW)) {
+        row(out, tile, address, bytes)?;
     }
     Ok(())
 }

@@ -1,6 +1,6 @@
--- What is known of a message whose target was found: each fact out of the lists of checks, by its place. Assumes nothing.
+-- What is known of a message whose target was found: each fact out of the list of its checks, by its place. Assumes nothing.
 use Prim.Native.Nat.{ℕ, ◌+◌, ◌*◌, ◌^◌, ◌<◌, ◌≤◌}
-use mathlib.Core.Bool.{Bool, true, false}
+use mathlib.Core.Bool.{true, false, not}
 use mathlib.Core.List.{List}
 use mathlib.Core.Path.{◌≡◌, refl, sym, ap, ◌∙◌}
 use native.Mathlib.Nat.{mul-le-mul_right, suc-mul}
@@ -8,133 +8,135 @@ use native.Mathlib.Omega.{arith}
 use lib.ListN.{length}
 use borrow.Author.Tests.{leb-false}
 use lib.Pow.{pow-add}
-use Rattle.numbers.specs.Choice.{◌gives◌else◌}
+use Rattle.std.specs.Prelude.{Result, Ok, Err}
 use Rattle.numbers.proofs.SumLaws.{above_false}
-use Rattle.answers.specs.declared.Error.TheVariants.{RecvNoSpace}
-use Rattle.answers.specs.declared.Answer.{Answer}
-use Rattle.answers.specs.declared.Answer.TheVariants.{None}
-use Rattle.answers.specs.declared.Answer.TheVariants as answers
-use Rattle.bits.specs.declared.Found.{Found}
-use Rattle.bits.specs.declared.Found.TheVariants.{At, Nothing}
+use Rattle.answers.specs.Answers.{Answer}
+use Rattle.answers.specs.declared.Error.{Error}
 use Rattle.board.specs.Board.{size_of}
 use Rattle.board.specs.declared.Board.{Board}
 use Rattle.endpoint.specs.Acceptable.{acceptable}
+use Rattle.endpoint.specs.Kinds.{is_receive, receive_of}
 use Rattle.endpoint.specs.declared.Endpoint.{Endpoint}
 use Rattle.endpoint.specs.declared.Endpoint.TheVariants.{Invalid, Send, Receive, Memory}
 use Rattle.endpoint.specs.declared.SendFields.{SendFields}
 use Rattle.endpoint.specs.declared.ReceiveFields.{ReceiveFields}
 use Rattle.endpoint.proofs.EndpointLaws.{accepted}
-use Rattle.table.specs.Table.{Table, endpoint_at, view}
+use Rattle.table.specs.Table.{endpoint_at, view}
 use Rattle.sharing.specs.Sharing.{Shared, waiting_of, crowded}
 use Rattle.sharing.specs.Note.{Fits}
-use Rattle.slots.specs.Slots.{slots_of, free_slot, Usable, InReach}
+use Rattle.slots.specs.Slots.{slots_of, Usable, InReach}
 use Rattle.slots.proofs.SlotFacts.{usable, few_slots, found_free, reaches}
-use Rattle.command.specs.Checks.{first, ◌fails◌else◌}
+use Rattle.command.specs.Checks.{first}
 use Rattle.command.specs.Checked.{Checked}
 use Rattle.command.specs.declared.Registers.{Registers}
-use Rattle.command.proofs.CheckFacts.{passed}
+use Rattle.command.specs.Command.{Command, ◌▸▸◌}
+use Rattle.command.specs.Outcome.{outcome, completes, carried}
+use Rattle.command.proofs.CheckFacts.{nth, passed, followed, first_then}
+use Rattle.command.proofs.WriteLaws.{carried_refused}
 use Rattle.command.proofs.CheckedLaws.{live_receive, acceptable_receive}
-use Rattle.delivery.specs.Delivery.{too_long, far_checks, fit_checks, arrival_of}
-use Rattle.delivery.specs.Target.{slot_target, receiver_target, endpoint_target, target_of}
+use Rattle.delivery.specs.Delivery.{too_long, receiver_of, slot_for, landing, delivered, arrival_of}
+use Rattle.delivery.specs.Target.{passing, target_of}
 use Rattle.delivery.specs.Stowing.{SlotIn}
 use Rattle.delivery.specs.declared.Target.{Target}
-use Rattle.delivery.specs.declared.Target.TheVariants.{To, Refused}
-use Rattle.delivery.proofs.TargetLaws.{far_tile}
-
--- ---- the definition read backwards
-pub record Found-To (b : Board) (t : Table) (sh : List ℕ) (s : SendFields) (a : Registers) (r : ReceiveFields) (i : ℕ) : Type 0 where
-  pub far : first (far_checks b s) ≡ None
-  pub is : endpoint_at t s.tgt_tile s.tgt_ep ≡ Receive r
-  pub fits : first (fit_checks r a) ≡ None
-  pub steps : ℕ
-  pub slot : free_slot r ≡ At i steps
-  pub room : crowded sh s.tgt_tile r.act ≡ false
 
 clash : {A : Type 0} → ◌≡◌ {A = ℕ} 0 1 → A
 clash z = absurd (omega arith)
 
-found_room : (q r : ReceiveFields) (i j : ℕ) (x : Bool) → (x gives Refused RecvNoSpace else To q j) ≡ To r i → (x ≡ false) × (q ≡ r) × (j ≡ i)
-unfolding ◌gives◌else◌
-found_room q r i j true h = clash (cc)
-found_room q r i j false h = (refl, cc, cc)
+-- ---- the definition read backwards
+read_back : (r : Answer) (x y : Target) → ◌≡◌ {A = Result Target Error} (passing r x) (Ok y) → (r ≡ Ok tt) × (x ≡ y)
+read_back (Ok tt) x y h = (refl, cc)
+read_back (Err e) x y h = clash (cc)
 
--- a receiver on a tile, and a slot of it
-abbrev Has : List ℕ → ℕ → ReceiveFields → ℕ → Type 0
-Has sh tile r i = ((d : ℕ) × (free_slot r ≡ At i d)) × (crowded sh tile r.act ≡ false)
+read_error : (r : Answer) (x : Target) (d : Error) → ◌≡◌ {A = Result Target Error} (passing r x) (Err d) → r ≡ Err d
+read_error (Ok tt) x d h = clash (cc)
+read_error (Err e) x d h = cc
 
-found_slot : (sh : List ℕ) (tile : ℕ) (q r : ReceiveFields) (i : ℕ) (x : Found) → free_slot q ≡ x → slot_target sh tile q x ≡ To r i → (q ≡ r) × Has sh tile r i
-found_slot sh tile q r i (At j d) e h = let p = found_room q r i j (crowded sh tile q.act) h in (p.1, ((d, rw (← p.1, ← p.2) e), rw (← p.1) p.0))
-found_slot sh tile q r i Nothing e h = clash (cc)
+received : (e : Endpoint) → not (is_receive e) ≡ false → e ≡ Receive (receive_of e)
+received Invalid h = clash (cc)
+received (Send s) h = clash (cc)
+received (Receive r) h = refl
+received (Memory m) h = clash (cc)
 
-found_receiver : (sh : List ℕ) (tile : ℕ) (q r : ReceiveFields) (i : ℕ) (n : Answer) → (n fails Refused else slot_target sh tile q (free_slot q)) ≡ To r i → (n ≡ None) × (q ≡ r) × Has sh tile r i
-unfolding ◌fails◌else◌
-found_receiver sh tile q r i None h = let p = found_slot sh tile q r i (free_slot q) refl h in (refl, p.0, p.1)
-found_receiver sh tile q r i (answers.Refused e) h = clash (cc)
+-- ---- what a delivery comes to, once it is known where the message goes
+module _ (x : ℕ) (b : Board) (ws sh bs : List ℕ) (s : SendFields) (a : Registers) (q : Result Target Error) (rest : ReceiveFields → ℕ → Command) (e : q ≡ target_of b (view ws) sh s a) where
+  pub turned_away : (d : Error) → q ≡ Err d → outcome (completes (Err d) x) ws bs ≡ carried x ws bs (delivered b (view ws) sh s a rest)
+  unfolding target_of delivered
+  turned_away d p =
+      let k = rest (receiver_of (view ws) s) (slot_for (view ws) s) in
+      let h : first (landing b (view ws) sh s a) ≡ Err d = read_error (first (landing b (view ws) sh s a)) _ d (sym e ∙ p) in
+      sym (carried_refused x ws bs (landing b (view ws) sh s a ▸▸ k) d (first_then (landing b (view ws) sh s a) k.checks ∙ ap (λ r. followed r (first k.checks)) h))
 
-found_endpoint : (sh : List ℕ) (tile : ℕ) (e : Endpoint) (a : Registers) (r : ReceiveFields) (i : ℕ) → endpoint_target sh tile e a ≡ To r i → (e ≡ Receive r) × (first (fit_checks r a) ≡ None) × Has sh tile r i
-unfolding endpoint_target receiver_target ◌gives◌else◌
-found_endpoint sh tile Invalid a r i h = clash (cc)
-found_endpoint sh tile (Send s) a r i h = clash (cc)
-found_endpoint sh tile (Receive q) a r i h = let p = found_receiver sh tile q r i (first (fit_checks q a)) h in (ap Receive p.1, rw (← p.1) p.0, p.2)
-found_endpoint sh tile (Memory m) a r i h = clash (cc)
-
-found_far : (b : Board) (t : Table) (sh : List ℕ) (s : SendFields) (a : Registers) (r : ReceiveFields) (i : ℕ) (n : Answer) → first (far_checks b s) ≡ n
-    → (n fails Refused else endpoint_target sh s.tgt_tile (endpoint_at t s.tgt_tile s.tgt_ep) a) ≡ To r i → Found-To b t sh s a r i
-unfolding ◌fails◌else◌
-found_far b t sh s a r i None q h =
-    let p = found_endpoint sh s.tgt_tile (endpoint_at t s.tgt_tile s.tgt_ep) a r i h in
-    record { far = q; is = p.0; fits = p.1; steps = p.2.0.0; slot = p.2.0.1; room = p.2.1 }
-found_far b t sh s a r i (answers.Refused e) q h = clash (cc)
-
-pub found_to : (b : Board) (t : Table) (sh : List ℕ) (s : SendFields) (a : Registers) (q : Target) (r : ReceiveFields) (i : ℕ) → q ≡ target_of b t sh s a → q ≡ To r i → Found-To b t sh s a r i
-unfolding target_of
-found_to b t sh s a q r i e p = found_far b t sh s a r i (first (far_checks b s)) refl (sym e ∙ p)
+  pub taken : (t : Target) → q ≡ Ok t → carried x ws bs (delivered b (view ws) sh s a rest) ≡ carried x ws bs (rest t.receiver t.slot)
+  unfolding target_of delivered
+  taken t p =
+      let h = read_back (first (landing b (view ws) sh s a)) _ t (sym e ∙ p) in
+      rw (first_then, h.0) (ap (λ (y : Target). carried x ws bs (rest y.receiver y.slot)) h.1)
 
 -- ---- and what follows on a checked machine
-module _ (b : Board) (ws sh : List ℕ) (tile : ℕ) (s : SendFields) (a : Registers) (q : Target) (r : ReceiveFields) (i : ℕ) (c : Checked b ws tile) (e : q ≡ target_of b (view ws) sh s a) (p : q ≡ To r i) where
-  abbrev found : Found-To b (view ws) sh s a r i
-  found = found_to b (view ws) sh s a q r i e p
+module _ (b : Board) (ws sh : List ℕ) (tile : ℕ) (s : SendFields) (a : Registers) (q : Result Target Error) (t : Target) (c : Checked b ws tile)
+    (e : q ≡ target_of b (view ws) sh s a) (p : q ≡ Ok t) where
+  found : (first (landing b (view ws) sh s a) ≡ Ok tt) × (record { receiver = receiver_of (view ws) s; slot = slot_for (view ws) s } ≡ t)
+  unfolding target_of
+  found = read_back (first (landing b (view ws) sh s a)) _ t (sym e ∙ p)
+
+  test : (k : ℕ) → nth (landing b (view ws) sh s a) k ≡ false
+  test = passed (landing b (view ws) sh s a) found.0
+
+  the_receiver : receiver_of (view ws) s ≡ t.receiver
+  the_receiver = ap (λ (x : Target). x.receiver) found.1
+
+  the_slot : slot_for (view ws) s ≡ t.slot
+  the_slot = ap (λ (x : Target). x.slot) found.1
+
+  is : endpoint_at (view ws) s.tgt_tile s.tgt_ep ≡ Receive t.receiver
+  unfolding landing
+  is = received (endpoint_at (view ws) s.tgt_tile s.tgt_ep) (test 2) ∙ ap Receive the_receiver
 
   pub to_tile : s.tgt_tile < b.tiles
-  to_tile = far_tile (first (far_checks b s)) b s refl found.far
+  unfolding landing
+  to_tile = leb-false b.tiles s.tgt_tile (test 1)
 
   pub to_words : s.tgt_tile * 192 + 192 ≤ length ws
   to_words = omega (arith, to_tile, c.long)
 
   pub to_live : s.tgt_ep < 64
-  to_live = live_receive (endpoint_at (view ws) s.tgt_tile s.tgt_ep) (view ws) s.tgt_tile s.tgt_ep r refl found.is
+  to_live = live_receive (endpoint_at (view ws) s.tgt_tile s.tgt_ep) (view ws) s.tgt_tile s.tgt_ep t.receiver refl is
 
-  pub to_acceptable : acceptable (size_of b s.tgt_tile) (Receive r) ≡ true
-  to_acceptable = acceptable_receive b ws tile s.tgt_tile s.tgt_ep (endpoint_at (view ws) s.tgt_tile s.tgt_ep) r c to_tile refl found.is
+  pub to_acceptable : acceptable (size_of b s.tgt_tile) (Receive t.receiver) ≡ true
+  to_acceptable = acceptable_receive b ws tile s.tgt_tile s.tgt_ep (endpoint_at (view ws) s.tgt_tile s.tgt_ep) t.receiver c to_tile refl is
 
-  pub to_usable : Usable r
-  to_usable = usable (size_of b s.tgt_tile) r to_acceptable
+  pub to_usable : Usable t.receiver
+  to_usable = usable (size_of b s.tgt_tile) t.receiver to_acceptable
 
-  pub to_slot : i < slots_of r
-  to_slot = found_free r (free_slot r) i found.steps to_usable refl found.slot
+  pub to_slot : t.slot < slots_of t.receiver
+  unfolding landing
+  to_slot =
+      let u : Usable (receiver_of (view ws) s) = rw (the_receiver) to_usable in
+      rw (← the_receiver, ← the_slot) (found_free (receiver_of (view ws) s) u (test 5))
 
-  pub to_small : i < 32
-  to_small = few_slots r i to_usable to_slot
+  pub to_small : t.slot < 32
+  to_small = few_slots t.receiver t.slot to_usable to_slot
 
-  pub to_reach : InReach r i
-  unfolding fit_checks
-  to_reach = reaches r i (passed (fit_checks r a) found.fits 1) to_slot
+  pub to_reach : InReach t.receiver t.slot
+  unfolding landing
+  to_reach = reaches t.receiver t.slot (rw (the_receiver) at (test 4)) to_slot
 
-  pub to_fits : a.size + 32 ≤ 2 ^ r.slot_size
-  unfolding fit_checks too_long
-  to_fits = above_false _ _ (passed (fit_checks r a) found.fits 0)
+  pub to_fits : a.size + 32 ≤ 2 ^ t.receiver.slot_size
+  unfolding landing too_long
+  to_fits = rw (the_receiver) at (above_false _ _ (test 3))
 
   -- a slot below 2^slots ends within the buffer, and the buffer within the tile's memory
-  slot_end : r.buffer + i * 2 ^ r.slot_size + 2 ^ r.slot_size ≤ size_of b s.tgt_tile
+  slot_end : t.receiver.buffer + t.slot * 2 ^ t.receiver.slot_size + 2 ^ t.receiver.slot_size ≤ size_of b s.tgt_tile
   slot_end =
+      let r = t.receiver in
       let room = (accepted (size_of b s.tgt_tile) r to_acceptable).room_holds in
-      let last : i * 2 ^ r.slot_size + 2 ^ r.slot_size ≤ slots_of r * 2 ^ r.slot_size = rw (← suc-mul i (2 ^ r.slot_size)) (mul-le-mul_right (2 ^ r.slot_size) to_slot) in
+      let last : t.slot * 2 ^ r.slot_size + 2 ^ r.slot_size ≤ slots_of r * 2 ^ r.slot_size = rw (← suc-mul t.slot (2 ^ r.slot_size)) (mul-le-mul_right (2 ^ r.slot_size) to_slot) in
       omega (arith, last, room.1.0, pow-add 2 r.slots r.slot_size)
 
-  pub slot_in : SlotIn b s r i
+  pub slot_in : SlotIn b s t.receiver t.slot
   slot_in = record { board = c.board; there = to_tile; few = to_small; usable = to_usable; within = slot_end }
 
   -- and what is noted of it fits
-  pub note_fits : Shared b sh → Fits b sh (arrival_of s r)
-  unfolding arrival_of crowded
-  note_fits d = record { there = to_tile; ep_small = to_live; room = λ f. leb-false 64 (waiting_of sh s.tgt_tile) (rw f at found.room) }
+  pub note_fits : Shared b sh → Fits b sh (arrival_of s t.receiver)
+  unfolding arrival_of crowded landing
+  note_fits d = record { there = to_tile; ep_small = to_live; room = λ f. leb-false 64 (waiting_of sh s.tgt_tile) (rw f at (rw (the_receiver) at (test 6))) }

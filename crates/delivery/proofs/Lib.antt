@@ -1,3 +1,2 @@
-pub mod TargetLaws
 pub mod Landing
 pub mod StowLaws

@@ -9,15 +9,17 @@ use Rattle.answers.specs.declared.Error.TheVariants.{TimeoutNoc, RecvGone, RecvO
 use Rattle.board.specs.Board.{start_of}
 use Rattle.board.specs.declared.Board.{Board}
 use Rattle.memory.specs.Bytes.{part}
+use Rattle.endpoint.specs.Kinds.{is_receive, receive_of}
 use Rattle.endpoint.specs.declared.SendFields.{SendFields}
 use Rattle.endpoint.specs.declared.ReceiveFields.{ReceiveFields}
+use Rattle.endpoint.specs.declared.Endpoint.{Endpoint}
 use Rattle.endpoint.specs.declared.Endpoint.TheVariants.{Receive}
 use Rattle.table.specs.Table.{Table, place, endpoint_at}
 use Rattle.sharing.specs.Sharing.{crowded}
 use Rattle.sharing.specs.declared.Arrival.{Arrival}
 use Rattle.slots.specs.Slots.{free_slot, range_bad, filled}
-use Rattle.command.specs.Checks.{Check, ◌⇒◌}
-use Rattle.command.specs.Command.{Command, Write, ◌⇐◌to◌, Put, bytes_to, ◌▸◌, ◌▸▸◌, receive◌or◌gives◌, slot◌or◌gives◌}
+use Rattle.command.specs.Checks.{Check, ◌⇒◌, ◌then◌}
+use Rattle.command.specs.Command.{Command, Write, ◌⇐◌to◌, Put, bytes_to, ◌▸▸◌, is_none, slot_of}
 use Rattle.command.specs.Local.{crosses_page, local_at}
 use Rattle.command.specs.declared.Registers.{Registers}
 use Rattle.delivery.specs.Header.{header_bytes}
@@ -37,29 +39,39 @@ message_checks s a =
     ∷ crosses_page a ⇒ PageBoundary
     ∷ []
 
+-- the receive endpoint that the endpoint s names, and the slot that a message takes there
+abbrev pub receiver_of : Table → SendFields → ReceiveFields
+receiver_of t s = receive_of (endpoint_at t s.tgt_tile s.tgt_ep)
+
+abbrev pub slot_for : Table → SendFields → ℕ
+slot_for t s = slot_of (free_slot (receiver_of t s))
+
 -- the target lies on the board
-unfoldable pub far_checks : Board → SendFields → List Check
+abbrev pub far_checks : Board → SendFields → List Check
 far_checks b s =
     not (eqb s.tgt_chip 0) ⇒ TimeoutNoc
     ∷ leb b.tiles s.tgt_tile ⇒ TimeoutNoc
     ∷ []
 
--- the message fits, and so does the reply range
-unfoldable pub fit_checks : ReceiveFields → Registers → List Check
-fit_checks r a =
-    too_long a.size r.slot_size ⇒ RecvOutOfBounds
-    ∷ range_bad r ⇒ RecvInvRplEps
+-- it is a receive endpoint; the message fits, and so does the reply range; a slot is free, and no foreign message is turned away
+abbrev pub receiver_checks : List ℕ → ℕ → Endpoint → Registers → List Check
+receiver_checks sh tile e a =
+    not (is_receive e) ⇒ RecvGone
+    ∷ too_long a.size (receive_of e).slot_size ⇒ RecvOutOfBounds
+    ∷ range_bad (receive_of e) ⇒ RecvInvRplEps
+    ∷ is_none (free_slot (receive_of e)) ⇒ RecvNoSpace
+    ∷ crowded sh tile (receive_of e).act ⇒ RecvNoSpace
     ∷ []
 
+unfoldable pub landing : Board → Table → List ℕ → SendFields → Registers → List Check
+landing b t sh s a = far_checks b s then receiver_checks sh s.tgt_tile (endpoint_at t s.tgt_tile s.tgt_ep) a
+
 -- the rest is over the receiver's record and the slot
+abbrev pub rest_over : Endpoint → (ReceiveFields → ℕ → Command) → Command
+rest_over e rest = rest (receive_of e) (slot_of (free_slot (receive_of e)))
+
 unfoldable pub delivered : Board → Table → List ℕ → SendFields → Registers → (ReceiveFields → ℕ → Command) → Command
-delivered b t sh s a rest =
-    far_checks b s ▸▸
-    receive endpoint_at t s.tgt_tile s.tgt_ep or RecvGone gives λ r.
-    fit_checks r a ▸▸
-    slot free_slot r or RecvNoSpace gives λ i.
-    crowded sh s.tgt_tile r.act ⇒ RecvNoSpace ▸
-    rest r i
+delivered b t sh s a rest = landing b t sh s a ▸▸ rest_over (endpoint_at t s.tgt_tile s.tgt_ep) rest
 
 -- the message comes into slot i of the receiver r
 unfoldable pub arrival : SendFields → ReceiveFields → ℕ → Write

@@ -7,18 +7,16 @@ ghost use Rattle.numbers.specs.Tests.{All};
 ghost use Rattle.board.specs.Board.{allowed, start_of, size_of, bytes_of};
 ghost use Rattle.endpoint.specs.Layout.{fit};
 ghost use Rattle.table.specs.Table.{view};
-ghost use Rattle.sharing.specs.Sharing.{Inside, Shared};
-ghost use Rattle.slots.specs.Slots.{Usable};
+ghost use Rattle.sharing.specs.Sharing.{Shared};
 ghost use Rattle.command.specs.Checks.{first};
 ghost use Rattle.command.specs.Checked.{Checked};
 ghost use Rattle.command.specs.Outcome.{written, placed};
 ghost use Rattle.delivery.specs.Header.{header_fields, header_word};
-ghost use Rattle.delivery.specs.Delivery.{too_long, message_checks, far_checks, fit_checks, arrival, arrival_of, message_to, slot_at};
-ghost use Rattle.delivery.specs.Target.{receiver_target, target_of};
+ghost use Rattle.delivery.specs.Delivery.{too_long, message_checks, arrival, arrival_of, message_to, slot_at};
+ghost use Rattle.delivery.specs.Target.{target_of};
 ghost use Rattle.delivery.specs.Stowing.{SlotIn, Stowed};
 
-use answers::{Answer, Error};
-use bits::Found;
+use answers::{Error, check};
 use board::Board;
 use command::Registers;
 use endpoint::{Endpoint, ReceiveFields, SendFields};
@@ -38,87 +36,36 @@ pub struct Header {
     pub label: u64,
 }
 
-// Where a message goes: a slot of the receiver, whose record was read at the start, or why it does not.
+// Where a message goes: a slot of the receiver, whose record was read at the start.
 #[derive(Clone, Copy)]
-pub enum Target {
-    To { receiver: ReceiveFields, slot: u32 },
-    Refused(Error),
+pub struct Target {
+    pub receiver: ReceiveFields,
+    pub slot: u32,
 }
 
 // Is a message of this size, with its header, above 2 to the n?
+#[tactic(auto, unfolding(crate::specs::Delivery::too_long))]
 fn too_long(size: u64, n: u8) -> bool
     requires { n ≤ 11 }
     ensures { result ≡ too_long size n }
 {
-    let limit = bits::power(n as u64);
-    numbers::sum_above(size, 32, limit)
+    numbers::sum_above(size, 32, bits::power(u64::from(n)))
 }
 
 // What SEND and REPLY check alike of a message by the endpoint s.
-pub fn message_checks(s: SendFields, a: Registers) -> Answer
+#[tactic(auto, unfolding(crate::specs::Delivery::message_checks))]
+pub fn message_checks(s: SendFields, a: Registers) -> Result<(), Error>
     ensures { result ≡ first (message_checks s a) }
 {
-    if 11 < s.msg_sz {
-        return Answer::Refused(Error::SendInvMsgSz);
-    }
-    if too_long(a.size, s.msg_sz) {
-        return Answer::Refused(Error::OutOfBounds);
-    }
-    if a.addr % 16 != 0 {
-        return Answer::Refused(Error::MsgUnaligned);
-    }
-    if command::crosses_page(a) {
-        return Answer::Refused(Error::PageBoundary);
-    }
-    Answer::None
+    check(s.msg_sz <= 11, Error::SendInvMsgSz)?;
+    check(!too_long(a.size, s.msg_sz), Error::OutOfBounds)?;
+    check(a.addr % 16 == 0, Error::MsgUnaligned)?;
+    check(!command::crosses_page(a), Error::PageBoundary)
 }
 
-// The target lies on the board.
-fn far_checks(b: Board, s: SendFields) -> Answer
-    ensures { result ≡ first (far_checks b s) }
-{
-    if s.tgt_chip != 0 {
-        return Answer::Refused(Error::TimeoutNoc);
-    }
-    if b.tiles <= s.tgt_tile as u64 {
-        return Answer::Refused(Error::TimeoutNoc);
-    }
-    Answer::None
-}
-
-// The message fits the receiver's slots, and its reply range the endpoints.
-fn fit_checks(r: ReceiveFields, a: Registers) -> Answer
-    requires { Usable r }
-    ensures { result ≡ first (fit_checks r a) }
-{
-    if too_long(a.size, r.slot_size) {
-        return Answer::Refused(Error::RecvOutOfBounds);
-    }
-    if slots::range_bad(r) {
-        return Answer::Refused(Error::RecvInvRplEps);
-    }
-    Answer::None
-}
-
-// The slot of a receiver, on that tile, which the message takes.
-fn receiver_target(sharing: &[u64], tile: u64, r: ReceiveFields, a: Registers) -> Target
-    requires { Usable r × Inside tile 66 (length sharing.now) }
-    ensures { result ≡ receiver_target sharing.now tile r a }
-{
-    let fits = fit_checks(r, a);
-    if let Answer::Refused(e) = fits {
-        return Target::Refused(e);
-    }
-    let Found::At { slot, far: _ } = slots::free_slot(r) else {
-        return Target::Refused(Error::RecvNoSpace);
-    };
-    if sharing::is_crowded(sharing, tile, r.act) {
-        return Target::Refused(Error::RecvNoSpace);
-    }
-    Target::To { receiver: r, slot }
-}
-
-// Where a message by the endpoint s goes.
+// Where a message by the endpoint s goes: the slot of the receiver that it takes, or the refusal of its delivery. The tile is read by the
+// clause alone: the machine was checked for it.
+#[tactic(auto, unfolding(crate::specs::Delivery::landing, crate::specs::Target::target_of))]
 pub fn find_target(
     b: Board,
     words: &[u64],
@@ -126,22 +73,34 @@ pub fn find_target(
     tile: u64,
     s: SendFields,
     a: Registers,
-) -> Target
+) -> Result<Target, Error>
     requires { Checked b words.now tile × Shared b sharing.now }
     ensures { result ≡ target_of b (view words.now) sharing.now s a }
 {
-    let far = far_checks(b, s);
-    if let Answer::Refused(e) = far {
-        return Target::Refused(e);
-    }
-    let Endpoint::Receive(r) = table::endpoint_at(words, s.tgt_tile as usize, s.tgt_ep as u64)
-    else {
-        return Target::Refused(Error::RecvGone);
+    check(s.tgt_chip == 0, Error::TimeoutNoc)?;
+    let at = u64::from(s.tgt_tile);
+    check(at < b.tiles, Error::TimeoutNoc)?;
+    let receiver = slots::receive_at(b, words, at, u64::from(s.tgt_ep), Error::RecvGone)?;
+    check(
+        !too_long(a.size, receiver.slot_size),
+        Error::RecvOutOfBounds,
+    )?;
+    check(!slots::range_bad(receiver), Error::RecvInvRplEps)?;
+    let Some(slot) = slots::free_slot(receiver) else {
+        return Err(Error::RecvNoSpace);
     };
-    receiver_target(sharing, s.tgt_tile as u64, r, a)
+    check(
+        !sharing::is_crowded(sharing, at, receiver.act),
+        Error::RecvNoSpace,
+    )?;
+    Ok(Target {
+        receiver,
+        slot: slot.index,
+    })
 }
 
 // What is noted of a message that comes to the receiver r.
+#[tactic(auto, unfolding(crate::specs::Delivery::arrival_of))]
 pub fn arrival_of(s: SendFields, r: ReceiveFields) -> Arrival
     ensures { result ≡ arrival_of s r }
 {
@@ -152,16 +111,17 @@ pub fn arrival_of(s: SendFields, r: ReceiveFields) -> Arrival
     }
 }
 
-// The message comes into slot i of the receiver r.
-pub fn arrive(words: &mut [u64], s: SendFields, r: ReceiveFields, i: u32)
-    requires { (s.tgt_tile * 192 + 192 ≤ length words.old) × (s.tgt_ep < 64) × (i < 32) }
-    ensures { words.new ≡ written words.old (arrival s r i ∷ []) }
+// The message comes into its slot of the receiver.
+#[tactic(auto, unfolding(crate::specs::Delivery::arrival))]
+pub fn arrive(words: &mut [u64], s: SendFields, to: Target)
+    requires { (s.tgt_tile * 192 + 192 ≤ length words.old) × (s.tgt_ep < 64) × (to.slot < 32) }
+    ensures { words.new ≡ written words.old (arrival s to.receiver to.slot ∷ []) }
 {
-    let after = slots::fill(r, i);
+    let after = slots::fill(to.receiver, to.slot);
     table::store(
         words,
         s.tgt_tile as usize,
-        s.tgt_ep as u64,
+        u64::from(s.tgt_ep),
         Endpoint::Receive(after),
     );
 }
@@ -171,44 +131,37 @@ fn header_word(h: Header) -> u64
     requires { All (fit (header_fields h)) }
     ensures { result ≡ header_word h }
 {
-    h.flags as u64
-        + ((h.rsize as u64) << 2)
-        + ((h.stile as u64) << 6)
-        + ((h.schip as u64) << 14)
+    u64::from(h.flags)
+        + (u64::from(h.rsize) << 2)
+        + (u64::from(h.stile) << 6)
+        + (u64::from(h.schip) << 14)
         + (h.length << 20)
-        + ((h.sep as u64) << 32)
-        + ((h.rep as u64) << 48)
+        + (u64::from(h.sep) << 32)
+        + (u64::from(h.rep) << 48)
 }
 
-// Where slot i of the receiver r lies among the bytes of all tiles.
-fn slot_at(b: Board, s: SendFields, r: ReceiveFields, i: u32) -> u64
-    requires { SlotIn b s r i }
-    ensures { result ≡ slot_at b s r i }
+// Where the message's slot lies among the bytes of all tiles.
+#[tactic(auto, unfolding(crate::specs::Delivery::slot_at))]
+fn slot_at(b: Board, s: SendFields, to: Target) -> u64
+    requires { SlotIn b s to.receiver to.slot }
+    ensures { result ≡ slot_at b s to.receiver to.slot }
 {
-    board::start(b, s.tgt_tile as u64) + (r.buffer + slots::offset(r, i))
+    let offset = to.receiver.buffer + slots::offset(to.receiver, to.slot);
+    command::place(b, u64::from(s.tgt_tile), offset, 0)
 }
 
 // Header and payload go to that slot.
-pub fn stow(
-    b: Board,
-    mem: &mut [u8],
-    tile: u64,
-    a: Registers,
-    s: SendFields,
-    r: ReceiveFields,
-    i: u32,
-    h: Header,
-)
-    requires { Stowed b (length mem.old) tile a s r i h }
-    ensures { mem.new ≡ placed mem.old (message_to b mem.old tile a s r i h) }
+#[tactic(auto, unfolding(crate::specs::Delivery::message_to, crate::specs::Header::header_bytes))]
+pub fn stow(b: Board, mem: &mut [u8], tile: u64, a: Registers, s: SendFields, to: Target, h: Header)
+    requires { Stowed b (length mem.old) tile a s to.receiver to.slot h }
+    ensures { mem.new ≡ placed mem.old (message_to b mem.old tile a s to.receiver to.slot h) }
 {
-    let from = command::local_at(b, tile, a);
-    let to = slot_at(b, s, r, i);
-    let first = header_word(h);
+    let from = command::place(b, tile, a.addr, a.size);
+    let at = slot_at(b, s, to);
     memory::store_message(
         mem,
-        to as usize,
-        first,
+        at as usize,
+        header_word(h),
         h.rlabel,
         h.label,
         from as usize,

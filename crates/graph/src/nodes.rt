@@ -1,8 +1,9 @@
 // The nodes of the drawing: one for each open endpoint, and one for a tile's memory. A node's shape and colour say its kind, and
 // a dashed border that it replies once; one whose activity does not run is gray, and says of which activity it is.
-use channels::phrases;
+use channels::Place;
+use channels::phrases::Credits;
 use endpoint::{Endpoint, MemoryFields, ReceiveFields, SendFields};
-use form::say;
+use form::{Allowed, Plural};
 use std::io::{self, Write};
 
 // The end of a label, and what is told of an endpoint whose activity does not run.
@@ -10,50 +11,46 @@ fn activity<W: Write>(out: &mut W, act: u16, running: u16) -> io::Result<()> {
     if act == running {
         return output::byte(out, b'"');
     }
-    say(
+    write!(
         out,
-        b"\\nof activity #\", color=gray60, fontcolor=gray40",
-        &[act as u64],
-    )
-}
-
-fn reply<W: Write>(out: &mut W, s: SendFields, running: u16) -> io::Result<()> {
-    output::text(out, b"reply\\nonce")?;
-    activity(out, s.act, running)?;
-    output::text(
-        out,
-        b", shape=ellipse, margin=\"0.02,0.03\", fillcolor=lightblue, style=\"filled,dashed\"",
+        "\\nof activity {act}\", color=gray60, fontcolor=gray40"
     )
 }
 
 fn send<W: Write>(out: &mut W, s: SendFields, running: u16) -> io::Result<()> {
     if s.reply {
-        return reply(out, s, running);
+        write!(out, "reply\\nonce")?;
+    } else {
+        write!(out, "send\\n{}", Credits(s))?;
     }
-    output::text(out, b"send\\n")?;
-    phrases::credits(out, s.cur_crd, s.max_crd)?;
     activity(out, s.act, running)?;
-    output::text(
+    let border = if s.reply {
+        ", style=\"filled,dashed\""
+    } else {
+        ""
+    };
+    write!(
         out,
-        b", shape=ellipse, margin=\"0.02,0.03\", fillcolor=lightblue",
+        ", shape=ellipse, margin=\"0.02,0.03\", fillcolor=lightblue{border}"
     )
 }
 
 fn receive<W: Write>(out: &mut W, r: ReceiveFields, running: u16) -> io::Result<()> {
     let n = channels::slots(r);
-    say(
+    let occupied = r.occupied.count_ones();
+    write!(
         out,
-        b"receive\\n# of # slot^ occupied",
-        &[channels::ones(r.occupied), n, n],
+        "receive\\n{occupied} of {n} slot{} occupied",
+        Plural(n)
     )?;
     activity(out, r.act, running)?;
-    output::text(out, b", shape=box, fillcolor=palegreen")
+    write!(out, ", shape=box, fillcolor=palegreen")
 }
 
 fn memory<W: Write>(out: &mut W, m: MemoryFields, running: u16) -> io::Result<()> {
-    say(out, b"memory\\n&", &[m.rw as u64])?;
+    write!(out, "memory\\n{}", Allowed(m.rw))?;
     activity(out, m.act, running)?;
-    output::text(out, b", shape=hexagon, fillcolor=khaki")
+    write!(out, ", shape=hexagon, fillcolor=khaki")
 }
 
 fn kind<W: Write>(out: &mut W, e: Endpoint, running: u16) -> io::Result<()> {
@@ -65,15 +62,17 @@ fn kind<W: Write>(out: &mut W, e: Endpoint, running: u16) -> io::Result<()> {
     }
 }
 
-// The endpoint of that number.
-pub fn node<W: Write>(out: &mut W, number: u64, e: Endpoint, running: u16) -> io::Result<()> {
-    let ep = number % 64;
-    say(out, b"    t#e# [label=\"# ", &[number / 64, ep, ep])?;
+// The endpoint there.
+pub fn node<W: Write>(out: &mut W, place: Place, e: Endpoint, running: u16) -> io::Result<()> {
+    let Place { tile, ep } = place;
+    write!(out, "    t{tile}e{ep} [label=\"{ep} ")?;
     kind(out, e, running)?;
-    output::text(out, b"];\n")
+    writeln!(out, "];")
 }
 
-pub fn tile_memory<W: Write>(out: &mut W, tile: u64, size: u64) -> io::Result<()> {
-    let form = b"    t#mem [label=\"memory\\n# bytes\", shape=cylinder];\n";
-    say(out, form, &[tile, size])
+pub fn tile_memory<W: Write>(out: &mut W, tile: usize, size: u64) -> io::Result<()> {
+    writeln!(
+        out,
+        "    t{tile}mem [label=\"memory\\n{size} bytes\", shape=cylinder];"
+    )
 }

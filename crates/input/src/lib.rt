@@ -5,42 +5,42 @@ ghost use Rattle.input.specs.Whole.{IsWhole, EndsOr};
 
 use std::io::Read;
 
-#[derive(Clone, Copy)]
-pub enum Input {
-    // So many bytes stand at the start of the slice.
-    Got(usize),
+// Why an input was not read whole.
+#[derive(Clone, Copy, Debug, PartialEq, Eq)]
+pub enum InputError {
     // The slice is full, and more is there.
     TooLong,
     Failed,
 }
 
 // Whether the input ends where the slice is full with `n` bytes.
-fn at_end<R: Read>(from: &mut R, n: usize) -> Input
+fn at_end<R: Read>(from: &mut R, n: usize) -> Result<usize, InputError>
     ensures { EndsOr (R.remaining from.old) n result }
 {
     let mut one = [0u8; 1];
     match from.read(&mut one) {
-        Ok(0) => Input::Got(n),
-        Ok(_) => Input::TooLong,
-        Err(_) => Input::Failed,
+        Ok(0) => Ok(n),
+        Ok(_) => Err(InputError::TooLong),
+        Err(_) => Err(InputError::Failed),
     }
 }
 
-// Reads to the end of the input. It ends since each turn brings a byte.
-pub fn read_all<R: Read>(from: &mut R, s: &mut [u8]) -> Input
+// Reads to the end of the input: so many bytes stand at the start of the slice. It ends since each turn brings a byte.
+// By hand, since it fills a lent slice: the library's readers to the end fill a `Vec`.
+pub fn read_all<R: Read>(from: &mut R, s: &mut [u8]) -> Result<usize, InputError>
     ensures { IsWhole (R.remaining from.old) s.new result }
 {
     let mut at: usize = 0;
     while at < s.len() {
         match from.read(&mut s[at..]) {
             Ok(0) => {
-                return Input::Got(at);
+                return Ok(at);
             }
             Ok(n) => {
                 at += n;
             }
             Err(_) => {
-                return Input::Failed;
+                return Err(InputError::Failed);
             }
         }
     }
@@ -77,7 +77,7 @@ mod tests {
         ] {
             let mut from = given;
             match read_all(&mut from, &mut s) {
-                Input::Got(n) => assert_eq!(rt; n, want),
+                Ok(n) => assert_eq!(rt; n, want),
                 _ => panic!(rt; "not read"),
             }
         }
@@ -88,12 +88,17 @@ mod tests {
     fn too_long(rt: HostRuntime) {
         let mut s = [0u8; 4];
         let mut from = b"abcde".as_slice();
-        assert!(rt; matches!(read_all(&mut from, &mut s), Input::TooLong));
+        assert!(rt; matches!(read_all(&mut from, &mut s), Err(InputError::TooLong)));
     }
 
     #[test]
     fn failing(rt: HostRuntime) {
         let mut s = [0u8; 4];
-        assert!(rt; matches!(read_all(&mut Breaks(false), &mut s), Input::Failed));
+        assert!(rt;
+            matches!(
+                read_all(&mut Breaks(false), &mut s),
+                Err(InputError::Failed)
+            )
+        );
     }
 }

@@ -8,7 +8,7 @@ use native.Mathlib.Omega.{arith}
 use borrow.Author.Tests.{eqb-false, leb-true, leb-false}
 use lib.Dec.{eqb, leb}
 use Rattle.numbers.proofs.TestLaws.{split_and}
-use Rattle.answers.specs.declared.Answer.TheVariants.{Refused}
+use Rattle.std.specs.Prelude.{Err}
 use Rattle.answers.specs.declared.Error.TheVariants.{RecvNoSpace}
 use Rattle.board.specs.declared.Board.{Board}
 use Rattle.endpoint.specs.Kinds.{send_of, receive_of}
@@ -19,8 +19,8 @@ use Rattle.table.specs.Table.{Table, place, endpoint_at}
 use Rattle.sharing.specs.Sharing.{Shared, waiting_of, foreign, crowded}
 use Rattle.sharing.proofs.ShareLaws.{good_at}
 use Rattle.slots.specs.Slots.{slots_of, free_slot}
-use Rattle.command.specs.Checks.{first, ◌then◌}
-use Rattle.command.specs.Command.{is_nothing, does, ◌noting◌, ◌▸◌, ◌▸▸◌, send◌or◌gives◌, receive◌or◌gives◌, slot◌or◌gives◌}
+use Rattle.command.specs.Checks.{first}
+use Rattle.command.specs.Command.{is_none}
 use Rattle.command.specs.declared.Registers.{Registers}
 use Rattle.command.proofs.CheckFacts.{before, stopped_at_two}
 use Rattle.delivery.specs.Delivery as delivery
@@ -64,7 +64,7 @@ module _ (n : ℕ) (t₀ t : Table) (O : Sound n t₀) (L : Ledger) (I : Inv (ne
 
 -- a SEND that is refused with RECV_NO_SPACE
 module _ (N : Net) (b : Board) (size : N.places ≡ b.tiles * 64) (t : Table) (L : Ledger) (I : Inv N t L) (turns : Turns b.tiles t) (sh bs : List ℕ) (shares : Shared b sh)
-    (own tile ep : ℕ) (a : Registers) (l : leb b.tiles tile ≡ false) (h : first (sending.SEND b t sh bs own tile ep a).checks ≡ Refused RecvNoSpace) where
+    (own tile ep : ℕ) (a : Registers) (l : leb b.tiles tile ≡ false) (h : first (sending.SEND b t sh bs own tile ep a).checks ≡ Err RecvNoSpace) where
   abbrev n : ℕ
   n = b.tiles
 
@@ -85,10 +85,10 @@ module _ (N : Net) (b : Board) (size : N.places ≡ b.tiles * 64) (t : Table) (L
     on_chip : not (eqb f.tgt_chip 0) ≡ false
     on_board_lem : leb n f.tgt_tile ≡ false
     credit : eqb f.cur_crd 0 ≡ false
-    cause : (is_nothing (free_slot z) ≡ true) ⊎ (crowded sh f.tgt_tile z.act ≡ true)
+    cause : (is_none (free_slot z) ≡ true) ⊎ (crowded sh f.tgt_tile z.act ≡ true)
 
   found : Found
-  unfolding does ◌noting◌ ◌▸◌ ◌▸▸◌ send◌or◌gives◌ receive◌or◌gives◌ slot◌or◌gives◌ ◌then◌ delivery.message_checks delivery.far_checks delivery.fit_checks delivery.delivered sending.last_checks sending.send_checks sending.request_of sending.SEND
+  unfolding delivery.message_checks delivery.delivered delivery.landing sending.send_checks sending.request_of sending.SEND
   found =
       let ok = before RecvNoSpace (sending.SEND b t sh bs own tile ep a).checks h in
       record {
@@ -102,7 +102,7 @@ module _ (N : Net) (b : Board) (size : N.places ≡ b.tiles * 64) (t : Table) (L
       }
 
   -- no slot is free: one of them holds a reply, since a credit is left
-  no_slot : is_nothing (free_slot z) ≡ true → (i : ℕ) × (i < slots_of (receive_of (t r))) × (holds t L r i ≡ reply)
+  no_slot : is_none (free_slot z) ≡ true → (i : ℕ) × (i < slots_of (receive_of (t r))) × (holds t L r i ≡ reply)
   unfolding credits_held
   no_slot nowhere =
       let x = found.sends_it in

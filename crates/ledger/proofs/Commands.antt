@@ -9,9 +9,8 @@ use borrow.Author.Tests.{eqb-true, eqb-false, ne_eqb, leb-false, not-false}
 use lib.Dec.{eqb, leb}
 use Rattle.numbers.specs.Choice.{◌gives◌else◌}
 use Rattle.answers.specs.declared.Error.TheVariants.{NoRep, ForeignEp}
-use Rattle.answers.specs.declared.Answer.TheVariants.{None}
-use Rattle.bits.specs.declared.Found.{Found}
-use Rattle.bits.specs.declared.Found.TheVariants.{At, Nothing}
+use Rattle.std.specs.Prelude.{Ok, Option, Some, None}
+use Rattle.bits.specs.declared.Slot.{Slot}
 use Rattle.board.specs.declared.Board.{Board}
 use Rattle.endpoint.specs.Kinds.{is_invalid, is_send, is_receive, send_of, receive_of}
 use Rattle.endpoint.specs.declared.SendFields.{SendFields}
@@ -22,8 +21,8 @@ use Rattle.table.specs.Table.{Table, place, endpoint_at}
 use Rattle.table.proofs.TableLaws.{look, live}
 use Rattle.sharing.specs.declared.Note.TheVariants.{Read}
 use Rattle.slots.specs.Slots.{slots_of, unread_slot, slot_named}
-use Rattle.command.specs.Checks.{◌⇒◌, first, ◌then◌}
-use Rattle.command.specs.Command.{Command, nothing as no_bytes, does, ◌noting◌, ◌▸◌, ◌▸▸◌, send◌or◌gives◌, receive◌or◌gives◌, memory◌or◌gives◌, slot◌or◌gives◌, slot◌else◌gives◌}
+use Rattle.command.specs.Checks.{◌⇒◌, first}
+use Rattle.command.specs.Command.{Command, nothing as no_bytes, does, ◌noting◌, send◌or◌gives◌, receive◌or◌gives◌, memory◌or◌gives◌, slot◌or◌gives◌, slot◌else◌gives◌}
 use Rattle.command.specs.Outcome.{tabled}
 use Rattle.command.specs.declared.Registers.{Registers}
 use Rattle.command.proofs.CheckFacts.{nth, passed}
@@ -126,8 +125,8 @@ module _ (N : Net) (b : Board) (t : Table) (sh bs : List ℕ) (own tile : ℕ) (
   abbrev result : Opcode → ℕ → Registers → Table
   result op ep a = tabled t (step op ep a).effect.writes
 
-  send_case : (ep : ℕ) (a : Registers) → first (step op_send ep a).checks ≡ None → Inv N (result op_send ep a) (entered t tile op_send ep a L)
-  unfolding step_of tabled does ◌noting◌ ◌▸◌ ◌▸▸◌ send◌or◌gives◌ receive◌or◌gives◌ slot◌or◌gives◌ ◌then◌ delivery.message_checks delivery.far_checks delivery.fit_checks delivery.delivered delivery.arrival sending.last_checks sending.send_checks sending.reply_placed sending.credit_spent sending.send_writes sending.request_of sending.SEND
+  send_case : (ep : ℕ) (a : Registers) → first (step op_send ep a).checks ≡ Ok tt → Inv N (result op_send ep a) (entered t tile op_send ep a L)
+  unfolding step_of delivery.message_checks delivery.delivered delivery.landing delivery.arrival sending.send_checks sending.reply_placed sending.credit_spent sending.send_writes sending.request_of sending.SEND
   send_case ep a h =
       let ok = passed (step op_send ep a).checks h in
       let f : SendFields = send_of (endpoint_at t tile ep) in
@@ -159,11 +158,11 @@ module _ (N : Net) (b : Board) (t : Table) (sh bs : List ℕ) (own tile : ℕ) (
   abbrev answers : ℕ → Registers → SendFields
   answers ep a = let g = receive_of (endpoint_at t tile ep) in send_of (endpoint_at t tile (g.rpl_eps + slot_named g a.arg0))
 
-  made : (ep : ℕ) (a : Registers) → first (step op_reply ep a).checks ≡ None
+  made : (ep : ℕ) (a : Registers) → first (step op_reply ep a).checks ≡ Ok tt
       → let g = receive_of (endpoint_at t tile ep) in
       let f = answers ep a in
       Replying N t (place tile ep) (slot_named g a.arg0) (place f.tgt_tile f.tgt_ep) g f (receive_of (endpoint_at t f.tgt_tile f.tgt_ep))
-  unfolding step_of does ◌noting◌ ◌▸◌ ◌▸▸◌ send◌or◌gives◌ receive◌or◌gives◌ slot◌or◌gives◌ ◌then◌ delivery.message_checks delivery.far_checks delivery.fit_checks delivery.delivered replying.from_checks replying.reply_checks replying.response_of replying.answer_of replying.REPLY
+  unfolding step_of delivery.message_checks delivery.delivered delivery.landing replying.from_checks replying.reply_checks replying.response_of replying.answer_of replying.REPLY
   made ep a h =
       let ok = passed (step op_reply ep a).checks h in
       let g : ReceiveFields = receive_of (endpoint_at t tile ep) in
@@ -187,7 +186,7 @@ module _ (N : Net) (b : Board) (t : Table) (sh bs : List ℕ) (own tile : ℕ) (
       }
 
   -- its credit has a sender to go to, and there is room for it
-  pub due : (ep : ℕ) (a : Registers) → first (step op_reply ep a).checks ≡ None
+  pub due : (ep : ℕ) (a : Registers) → first (step op_reply ep a).checks ≡ Ok tt
       → ((answers ep a).crd_ep < 64) × (replying.creditable (endpoint_at t (answers ep a).tgt_tile (answers ep a).crd_ep) ≡ true)
   due ep a h =
       let f : SendFields = answers ep a in
@@ -197,8 +196,8 @@ module _ (N : Net) (b : Board) (t : Table) (sh bs : List ℕ) (own tile : ℕ) (
       let G = sender_is I C in
       (low, rw (look t f.tgt_tile f.crd_ep low) (creditable_is (t s) (is_sender (t s) (I.fixed s ∙ G.is)) (short I C) (omega (arith, few I G))))
 
-  reply_case : (ep : ℕ) (a : Registers) → first (step op_reply ep a).checks ≡ None → Inv N (result op_reply ep a) (entered t tile op_reply ep a L)
-  unfolding step_of tabled does ◌noting◌ ◌▸◌ ◌▸▸◌ send◌or◌gives◌ receive◌or◌gives◌ slot◌or◌gives◌ ◌then◌ delivery.message_checks delivery.far_checks delivery.fit_checks delivery.delivered delivery.arrival replying.from_checks replying.reply_checks replying.credit_to replying.credit_returned replying.reply_gone replying.slot_freed replying.reply_writes replying.response_of replying.answer_of replying.REPLY
+  reply_case : (ep : ℕ) (a : Registers) → first (step op_reply ep a).checks ≡ Ok tt → Inv N (result op_reply ep a) (entered t tile op_reply ep a L)
+  unfolding step_of delivery.message_checks delivery.delivered delivery.landing delivery.arrival replying.from_checks replying.reply_checks replying.credit_to replying.credit_returned replying.reply_gone replying.slot_freed replying.reply_writes replying.response_of replying.answer_of replying.REPLY
   reply_case ep a h =
       let ok = passed (step op_reply ep a).checks h in
       let g : ReceiveFields = receive_of (endpoint_at t tile ep) in
@@ -217,26 +216,26 @@ module _ (N : Net) (b : Board) (t : Table) (sh bs : List ℕ) (own tile : ℕ) (
       )
       (reply_keeps I C)
 
-  fetch_case : (ep : ℕ) (a : Registers) → first (step op_fetch ep a).checks ≡ None → Inv N (result op_fetch ep a) L
-  unfolding step_of tabled does ◌noting◌ ◌▸◌ receive◌or◌gives◌ slot◌else◌gives◌ fetching.fetch_writes fetching.FETCH
+  fetch_case : (ep : ℕ) (a : Registers) → first (step op_fetch ep a).checks ≡ Ok tt → Inv N (result op_fetch ep a) L
+  unfolding step_of fetching.fetch_writes fetching.FETCH
   fetch_case ep a h = go (unread_slot g) h
     where
       g : ReceiveFields
       g = receive_of (endpoint_at t tile ep)
 
-      k : Found → Command
+      k : Option Slot → Command
       k u = slot u else does [] no_bytes 18446744073709551615 gives λ i. does (fetching.fetch_writes tile ep g i) no_bytes (i * 2 ^ g.slot_size) noting Read
 
-      go : (u : Found) → first ((not (is_receive (endpoint_at t tile ep)) ⇒ NoRep) ∷ (not (eqb g.act own) ⇒ ForeignEp) ∷ (k u).checks) ≡ None
+      go : (u : Option Slot) → first ((not (is_receive (endpoint_at t tile ep)) ⇒ NoRep) ∷ (not (eqb g.act own) ⇒ ForeignEp) ∷ (k u).checks) ≡ Ok tt
           → Inv N (tabled t (k u).effect.writes) L
-      go Nothing h = I
-      go (At i d) h = fetch_keeps I (rw size x.there) x.is i
+      go None h = I
+      go (Some s₀) h = fetch_keeps I (rw size x.there) x.is s₀.index
         where
           x : Stands n t tile ep (Receive g)
-          x = receives n t tile ep l (passed _ h 0)
+          x = receives n t tile ep l (passed ((not (is_receive (endpoint_at t tile ep)) ⇒ NoRep) ∷ (not (eqb g.act own) ⇒ ForeignEp) ∷ (k (Some s₀)).checks) h 0)
 
-  ack_case : (ep : ℕ) (a : Registers) → first (step op_ack ep a).checks ≡ None → Inv N (result op_ack ep a) L
-  unfolding step_of tabled does ◌noting◌ ◌▸◌ ◌▸▸◌ receive◌or◌gives◌ ◌then◌ acking.ack_checks acking.ack_writes acking.ACK_MSG
+  ack_case : (ep : ℕ) (a : Registers) → first (step op_ack ep a).checks ≡ Ok tt → Inv N (result op_ack ep a) L
+  unfolding step_of acking.ack_checks acking.ack_writes acking.ACK_MSG
   ack_case ep a h = go (eqb g.rpl_eps 65535) refl
     where
       g : ReceiveFields
@@ -257,8 +256,8 @@ module _ (N : Net) (b : Board) (t : Table) (sh bs : List ℕ) (own tile : ℕ) (
           rw (q, at_tile tile ep (g.rpl_eps + i) x.low)
           (ack_keeps I (rw size x.there) x.is i (eqb-false g.rpl_eps 65535 q) (leb-false (slots_of g) i (ok 3)))
 
-  pub accepted : (op : Opcode) (ep : ℕ) (a : Registers) → first (step op ep a).checks ≡ None → Inv N (result op ep a) (entered t tile op ep a L)
-  unfolding step_of tabled does ◌noting◌ ◌▸◌ ◌▸▸◌ memory◌or◌gives◌ accessing.READ accessing.WRITE
+  pub accepted : (op : Opcode) (ep : ℕ) (a : Registers) → first (step op ep a).checks ≡ Ok tt → Inv N (result op ep a) (entered t tile op ep a L)
+  unfolding step_of accessing.ACCESS
   accepted op_idle ep a h = I
   accepted op_send ep a h = send_case ep a h
   accepted op_reply ep a h = reply_case ep a h

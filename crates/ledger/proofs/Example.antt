@@ -1,13 +1,12 @@
 -- Demand 3 speaks of something: document 01's session wiring is sound, and a run on sound wiring meets messages, replies and a full
 -- buffer. All by computation. Assumes nothing.
 use Prim.Native.Nat.{ℕ, ◌^◌, ◌<◌}
-use mathlib.Core.Bool.{false}
+use mathlib.Core.Bool.{Bool, true, false}
 use mathlib.Core.List.{List, [], ◌∷◌, ◌++◌}
 use mathlib.Core.Path.{◌≡◌, refl}
 use lib.Dec.{lit<}
 use lib.ListN.{replicate}
 use Rattle.numbers.specs.Choice.{◌gives◌else◌}
-use Rattle.bits.specs.Search.{all}
 use Rattle.board.specs.Board.{pages_allowed, pages_of, allowed, start_of, size_of, bytes_of, sizes_right}
 use Rattle.board.specs.Lent.{in_word, board_of}
 use Rattle.board.specs.declared.Board.{Board}
@@ -18,22 +17,16 @@ use Rattle.endpoint.specs.declared.Endpoint.TheVariants.{Send, Receive}
 use Rattle.table.specs.Words.{words_nth, put_nth}
 use Rattle.table.specs.Table.{endpoint_at, upd, view, stored}
 use Rattle.table.specs.Good.{good_table}
-use Rattle.numbers.specs.Sums.{◌above◌}
-use Rattle.answers.specs.declared.Answer.TheVariants.{Refused}
+use Rattle.std.specs.Prelude.{Ok, Err, Result}
 use Rattle.answers.specs.declared.Error.TheVariants.{RecvNoSpace}
 use Rattle.bits.specs.Bits.{put_bit}
-use Rattle.bits.specs.Slots.{find_slot}
-use Rattle.bits.specs.Search as search
 use Rattle.endpoint.specs.Kinds.{send_of}
 use Rattle.slots.specs.Slots.{free_slot, unread_slot, slot_named, range_past, range_bad, filled, fetched, cleared}
 use Rattle.sharing.specs.Sharing as sharing
 use Rattle.sharing.specs.Note.{noted}
 use Rattle.command.specs.declared.Registers.{Registers}
 use Rattle.memory.specs.Bytes as bytes
-use Rattle.command.specs.Checks.{first, ◌then◌, ◌fails◌else◌}
-use Rattle.command.specs.Command.{does, ◌noting◌, ◌▸◌, ◌▸▸◌, send◌or◌gives◌, receive◌or◌gives◌, slot◌or◌gives◌, slot◌else◌gives◌}
-use Rattle.command.specs.Outcome.{outcome, written, placed, settled, carried}
-use Rattle.command.specs.Local.{crosses_page, outside, local_at}
+use Rattle.command.specs.Local.{crosses_page, outside}
 use Rattle.delivery.specs.Header.{header_word, header_bytes}
 use Rattle.delivery.specs.Delivery as delivery
 use Rattle.messages.specs.Send as sending
@@ -43,12 +36,11 @@ use Rattle.messages.specs.Reply as replying
 use Rattle.receive.specs.Fetch as fetching
 use Rattle.ledger.specs.Ledger.{Held, nothing, request, reply, holds}
 use Rattle.ledger.specs.Run.{Machine, Step, command, IsNarrow, AllNarrow, World, answer_of, next, run, start}
-use Rattle.machine.specs.Machine.{opcode_of, step_of, machine_right, host_checks, command_of, left, left_by}
+use Rattle.machine.specs.Machine.{opcode_of, step_of, machine_right, host_checks, command_of}
 use Rattle.wiring.specs.Sums.{sum}
 use Rattle.wiring.specs.Credits.{share, promised}
-use Rattle.wiring.specs.Wiring.{sender_sound, clear_of, apart_from, apart_at, range_sound, receiver_sound, endpoint_sound, sound, wiring_of}
-use Rattle.wiring.specs.declared.Wiring.{Wiring}
-use Rattle.wiring.specs.declared.Wiring.TheVariants.{Yes, No}
+use Rattle.wiring.specs.Wiring.{sender_sound, clear_of, apart_from, apart_at, range_sound, range_apart, receiver_sound, endpoint_sound, sound, wiring_of}
+use Rattle.answers.specs.declared.Error.{Error}
 
 board : Board
 board = board_of 2 (1 ∷ 1 ∷ [])
@@ -65,7 +57,7 @@ machine : List ℕ → Machine
 -- activity 5 on both tiles, and nothing waits
 machine ws = record { board = board; words = ws; sharing = (5 ∷ replicate 66 0) ++ (5 ∷ replicate 66 0); bytes = replicate 8192 0 }
 
-check : Machine → Wiring
+check : Machine → Result Bool Error
 check m = wiring_of m.board m.words m.sharing m.bytes
 
 -- document 01's session
@@ -101,9 +93,9 @@ slot_at_end : ℕ → ℕ → Held
 slot_at_end r i = holds (view end.machine.words) end.ledger r i
 
 record Shown : Type 0 where
-  session_is_sound : check (machine session) ≡ Yes
-  too_many_is_not : check (machine too_many) ≡ No
-  crowded_is_sound : check (machine crowded) ≡ Yes
+  session_is_sound : check (machine session) ≡ Ok true
+  too_many_is_not : check (machine too_many) ≡ Ok false
+  crowded_is_sound : check (machine crowded) ≡ Ok true
   commands_are_wide : AllNarrow commands
   -- the books of tile 0's sender: 1 credit and 2 messages are 2 credits and 1 reply
   credits : (send_of (view end.machine.words 4)).cur_crd ≡ 1
@@ -114,10 +106,10 @@ record Shown : Type 0 where
   second_slot : slot_at_end 71 1 ≡ request 4
   reply_slot : slot_at_end 6 0 ≡ reply
   -- and a SEND of tile 1 to that slot finds it full
-  full : answer_of end.machine (given 1 1 8 16 65535) ≡ Refused RecvNoSpace
+  full : answer_of end.machine (given 1 1 8 16 65535) ≡ Err RecvNoSpace
 
 shown : Shown
-unfolding machine check slot_at_end board send_to receiver session crowded registers given commands end stored put_nth words_nth view fields_of endpoint_at upd ◌gives◌else◌ all search.first board_of in_word pages_allowed pages_of allowed start_of size_of bytes_of sizes_right acceptable acceptable_words good_table machine_right host_checks left left_by sharing.word_at sharing.set_at sharing.request_at sharing.request_good sharing.record_good sharing.sharing_good sharing.foreign sharing.crowded sharing.counted sharing.arrived sharing.taken noted opcode_of step_of command_of put_bit find_slot ◌above◌ free_slot unread_slot slot_named range_past range_bad filled fetched cleared first ◌then◌ ◌fails◌else◌ does ◌noting◌ ◌▸◌ ◌▸▸◌ send◌or◌gives◌ receive◌or◌gives◌ slot◌or◌gives◌ slot◌else◌gives◌ outcome written placed settled carried crosses_page outside local_at header_word header_bytes delivery.too_long delivery.message_checks delivery.far_checks delivery.fit_checks delivery.delivered delivery.arrival delivery.arrival_of delivery.slot_at delivery.message_to sending.last_checks sending.send_checks sending.sep_of sending.rsize_of sending.request sending.reply_to with_credits sending.reply_placed sending.credit_spent sending.send_writes sending.request_of sending.SEND replying.from_checks replying.credit_bad replying.reply_checks replying.response room_for replying.creditable replying.credited replying.credit_to replying.credit_returned replying.reply_gone replying.slot_freed replying.reply_writes replying.response_of replying.answer_of replying.REPLY fetching.fetch_writes fetching.FETCH bytes.part bytes.put bytes.bytes bytes.word bytes.header next run too_many sum share promised sender_sound clear_of apart_from apart_at range_sound receiver_sound endpoint_sound sound wiring_of
+unfolding machine check slot_at_end board send_to receiver session crowded registers given commands end stored put_nth words_nth view fields_of endpoint_at upd ◌gives◌else◌ board_of in_word pages_allowed pages_of allowed start_of size_of bytes_of sizes_right acceptable acceptable_words good_table machine_right host_checks sharing.word_at sharing.set_at sharing.request_at sharing.request_good sharing.record_good sharing.sharing_good sharing.foreign sharing.crowded sharing.counted sharing.arrived sharing.taken noted opcode_of step_of command_of put_bit free_slot unread_slot slot_named range_past range_bad filled fetched cleared crosses_page outside header_word header_bytes delivery.too_long delivery.message_checks delivery.delivered delivery.landing delivery.arrival delivery.arrival_of delivery.slot_at delivery.message_to sending.send_checks sending.sep_of sending.rsize_of sending.request sending.reply_to with_credits sending.reply_placed sending.credit_spent sending.send_writes sending.request_of sending.SEND replying.from_checks replying.credit_bad replying.reply_checks replying.response room_for replying.creditable replying.credited replying.credit_to replying.credit_returned replying.reply_gone replying.slot_freed replying.reply_writes replying.response_of replying.answer_of replying.REPLY fetching.fetch_writes fetching.FETCH bytes.part bytes.put bytes.bytes bytes.word bytes.header next run too_many sum share promised sender_sound clear_of apart_from apart_at range_sound range_apart receiver_sound endpoint_sound sound wiring_of
 shown =
     record {
       session_is_sound = refl;

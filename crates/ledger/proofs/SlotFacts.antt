@@ -7,13 +7,13 @@ use native.Mathlib.Nat.{zero-div}
 use lib.Dec.{lit<}
 use Rattle.bits.specs.Bits.{has_bit, put_bit}
 use Rattle.bits.specs.Slots.{find_slot}
-use Rattle.bits.specs.declared.Found.{Found}
-use Rattle.bits.specs.declared.Found.TheVariants.{At, Nothing}
+use Rattle.std.specs.Prelude.{Option, Some, None}
+use Rattle.bits.specs.declared.Slot.{Slot}
 use Rattle.bits.proofs.BitLaws.{has_put_same, has_put_other}
 use Rattle.bits.proofs.SlotLaws.{Outcome, outcome}
 use Rattle.endpoint.specs.declared.ReceiveFields.{ReceiveFields}
 use Rattle.slots.specs.Slots.{slots_of, free_slot}
-use Rattle.command.specs.Command.{is_nothing}
+use Rattle.command.specs.Command.{is_none}
 use Rattle.ledger.specs.Ledger.{next_slot}
 use Rattle.wiring.proofs.Places.{clash}
 
@@ -41,19 +41,19 @@ module _ (g : ReceiveFields) (turn : g.wpos ≤ slots_of g) where
     pub low : next_slot g < slots_of g
     pub free : has_bit g.occupied (next_slot g) ≡ false
 
-  pub next_free : is_nothing (free_slot g) ≡ false → Free
+  pub next_free : is_none (free_slot g) ≡ false → Free
   unfolding free_slot
   next_free h = go (find_slot g.occupied g.wpos g.slots false) refl (outcome g.occupied g.wpos g.slots false turn) h
     where
-      go : (x : Found) → free_slot g ≡ x → Outcome g.occupied g.wpos g.slots false x → is_nothing x ≡ false → Free
-      go (At s far) e o h = record { low = rw e o.below; free = rw e o.wanted_bit }
-      go Nothing e o h = clash (cc)
+      go : (x : Option Slot) → free_slot g ≡ x → Outcome g.occupied g.wpos g.slots false x → is_none x ≡ false → Free
+      go (Some s₀) e o h = record { low = rw e o.below; free = rw e o.wanted_bit }
+      go None e o h = clash (cc)
 
   -- where none was found, every slot is occupied
-  pub none_free : is_nothing (free_slot g) ≡ true → (i : ℕ) → i < slots_of g → has_bit g.occupied i ≡ true
+  pub none_free : is_none (free_slot g) ≡ true → (i : ℕ) → i < slots_of g → has_bit g.occupied i ≡ true
   unfolding free_slot
   none_free h = go (find_slot g.occupied g.wpos g.slots false) (outcome g.occupied g.wpos g.slots false turn) h
     where
-      go : (x : Found) → Outcome g.occupied g.wpos g.slots false x → is_nothing x ≡ true → (i : ℕ) → i < slots_of g → has_bit g.occupied i ≡ true
-      go (At s far) o h = clash (cc)
-      go Nothing o h = o
+      go : (x : Option Slot) → Outcome g.occupied g.wpos g.slots false x → is_none x ≡ true → (i : ℕ) → i < slots_of g → has_bit g.occupied i ≡ true
+      go (Some s₀) o h = clash (cc)
+      go None o h = o

@@ -1,8 +1,7 @@
 -- Demand 3: on sound wiring, after any run, no credit is lost or made, no receiver is owed more than it can hold, and a SEND is told
 -- that a buffer is full only where a reply lies in it, or the queue of its tile is full. The last clause is about SEND: a REPLY may
 -- meet 7 among requests alone.
-use Rattle.std.specs.Prelude.{ℕ, ◌+◌, ◌*◌, ◌≤◌, ◌<◌, true, List, ◌⊎◌, ◌≡◌}
-use Rattle.answers.specs.declared.Answer.TheVariants.{Refused}
+use Rattle.std.specs.Prelude.{ℕ, ◌+◌, ◌*◌, ◌≤◌, ◌<◌, true, List, ◌⊎◌, ◌≡◌, Err}
 use Rattle.answers.specs.declared.Error.TheVariants.{RecvNoSpace}
 use Rattle.endpoint.specs.Kinds.{send_of, receive_of}
 use Rattle.endpoint.specs.declared.SendFields.{SendFields}
@@ -26,7 +25,7 @@ pub record Kept (n : ℕ) (t₀ : Table) (m : Machine) (t : Table) (L : Ledger) 
   -- the credits held towards a receiver and the requests in its slots are never more than its slots
   pub bound : {r : ℕ} {g : ReceiveFields} → Receiver n t r g → credits_held (n * 64) t r + requests_held t L r (slots_of g) ≤ slots_of g
   -- where a SEND (opcode 1) is refused with RECV_NO_SPACE, its receiver holds a reply, or its tile's queue is full
-  pub full : (tile ep : ℕ) (a : Registers) → answer_of m (command tile 1 ep a) ≡ Refused RecvNoSpace
+  pub full : (tile ep : ℕ) (a : Registers) → answer_of m (command tile 1 ep a) ≡ Err RecvNoSpace
       → let s = send_of (endpoint_at t tile ep) in
       let r = place s.tgt_tile s.tgt_ep in
       ((i : ℕ) × (i < slots_of (receive_of (t r))) × (holds t L r i ≡ reply)) ⊎ (waiting_of m.sharing s.tgt_tile ≡ 64)

@@ -1,7 +1,6 @@
 -- Document 02, T-04: sound wiring never reaches the cap on credits. After any run on it, the endpoint to which an accepted REPLY (opcode 2)
 -- brings its credit sends, has fewer credits than its max_crd, and at most 61: the credit is added, as it was before the request.
-use Rattle.std.specs.Prelude.{true, List, ◌≡◌, ℕ, ◌+◌}
-use Rattle.answers.specs.declared.Answer.TheVariants.{None}
+use Rattle.std.specs.Prelude.{true, List, ◌≡◌, ℕ, ◌+◌, Ok}
 use Rattle.endpoint.specs.Kinds.{send_of, receive_of}
 use Rattle.table.specs.Table.{endpoint_at, view}
 use Rattle.slots.specs.Slots.{slot_named}
@@ -14,7 +13,7 @@ use Rattle.wiring.specs.Sound.{Sound}
 -- in a machine, the endpoint that the credit goes to
 abbrev pub Room : Machine → Type 0
 Room m =
-    (tile ep : ℕ) (a : Registers) → answer_of m (command tile 2 ep a) ≡ None
+    (tile ep : ℕ) (a : Registers) → answer_of m (command tile 2 ep a) ≡ Ok tt
     → let t = view m.words in
     let g = receive_of (endpoint_at t tile ep) in
     let s = send_of (endpoint_at t tile (g.rpl_eps + slot_named g a.arg0)) in

@@ -1,7 +1,7 @@
 -- A run: commands, privileged commands and responses from any tiles, one after another, on the machine's words, sharing records and
 -- bytes, with the history threaded beside them. A step is what a call of the machine comes to: its answer, and what it leaves.
 use Rattle.std.specs.Prelude.{ℕ, List, [], ◌∷◌}
-use Rattle.answers.specs.declared.Answer.{Answer}
+use Rattle.answers.specs.Answers.{Answer}
 use Rattle.board.specs.declared.Board.{Board}
 use Rattle.table.specs.Table.{Table, view}
 use Rattle.command.specs.Checks.{◌fails◌else◌}

@@ -1,165 +1,159 @@
-// The lines of a script, and the tokens of one line. A position is an index of the line, by value; `next` takes the line and a
-// position and answers the token from there on, for any line and any position.
+// The tokens of one line of a script.
 #![tactic(auto)]
 
-pub mod lines;
+ghost use Rattle.std.specs.Prelude.{◌≡◌, ◌<◌, ◌≤◌, ◌+◌, ◌-◌, ◌^◌, length, IfSome, IsNone, slice_range};
+ghost use Rattle.std.specs.Iterator.{at_most};
+
 mod number;
 
-use number::Number;
+pub use number::NumberError;
 
-#[derive(Clone, Copy)]
-pub enum Kind {
+#[derive(Clone, Copy, Debug, PartialEq, Eq)]
+pub enum Kind<'a> {
     // Nothing is left: the line ends there, or a comment starts.
     End,
     Word,
-    Number(u64),
-    // A number above 2^64 - 1.
-    TooBig,
-    // What starts with a digit and is no number.
-    NotNumber,
+    // What starts with a digit.
+    Number(Result<u64, NumberError>),
     Equals,
     Colon,
-    // Text between quotes; the token has both of them.
-    Text,
+    // What stands between two quotes; the token's text has both of them.
+    Text(&'a [u8]),
     // A quote after which the line ends.
     OpenText,
     // A byte that starts nothing.
     Stray,
 }
 
-// A token: its kind, where it starts, and where what follows it starts. `End` alone has no byte: it stands where the search
-// for it began, right behind the token before.
-#[derive(Clone, Copy)]
-pub struct Token {
-    pub kind: Kind,
+// A token: its kind, where in the line it starts, and its bytes. `End` alone has none: it stands where the search for it began,
+// right behind the token before.
+#[derive(Clone, Copy, Debug)]
+pub struct Token<'a> {
+    pub kind: Kind<'a>,
     pub start: usize,
-    pub end: usize,
+    pub text: &'a [u8],
 }
 
-// The byte at a position; past the line's end it is a line feed.
-pub fn byte(line: &[u8], at: usize) -> u8 {
-    if at < line.len() { line[at] } else { b'\n' }
+// What a line still has from a position on.
+#[derive(Clone, Copy, Debug)]
+pub struct Tokens<'a> {
+    pub line: &'a [u8],
+    pub at: usize,
+    pub ghost inside: { at ≤ length line.now },
 }
 
 // Can the byte stand in a word? `.`, `-` and bytes above 127 can in none that has a meaning; they belong to it so that a
 // mistake is told with the whole of what was written.
 fn in_word(b: u8) -> bool {
-    match b {
-        b'a'..=b'z' | b'A'..=b'Z' | b'0'..=b'9' | b'_' | b'.' | b'-' | 128..=255 => true,
-        _ => false,
-    }
+    b.is_ascii_alphanumeric() || matches!(b, b'_' | b'.' | b'-' | 128..)
 }
 
+// The line feed is told by the lines; a carriage return is a blank.
 fn is_blank(b: u8) -> bool {
-    match b {
-        b' ' | b'\t' | b'\r' => true,
-        _ => false,
+    matches!(b, b' ' | b'\t' | b'\r')
+}
+
+fn blanks(rest: &[u8]) -> usize
+    ensures { result ≤ length rest.now }
+{
+    rest.iter()
+        .position(|b| !is_blank(*b))
+        .unwrap_or(rest.len())
+}
+
+fn word_len(rest: &[u8]) -> usize
+    ensures { result ≤ length rest.now }
+{
+    rest.iter().position(|b| !in_word(*b)).unwrap_or(rest.len())
+}
+
+// The text whose opening quote stands before `inside`, and its length with the quotes that are there.
+fn text(inside: &[u8]) -> (Kind<'_>, usize)
+    requires { length inside.now < 2 ^ 63 }
+    ensures { (0 < result.1) × (result.1 ≤ length inside.now + 1) }
+{
+    match inside.iter().position(|b| *b == b'"') {
+        Some(n) => (Kind::Text(&inside[..n]), n + 2),
+        None => (Kind::OpenText, inside.len() + 1),
     }
 }
 
-// The first position from `at` on that holds no blank.
-fn past_blanks(line: &[u8], at: usize) -> usize {
-    let mut i = at;
-    while i < line.len() {
-        if !is_blank(line[i]) {
-            return i;
+// The token at the start of what is left of a line, and its length.
+fn scan(rest: &[u8]) -> Option<(Kind<'_>, usize)>
+    ensures { IfSome result (λ t. (0 < t.1) × (t.1 ≤ length rest.now)) }
+{
+    match rest {
+        [] | [b'#', ..] => None,
+        [b'=', ..] => Some((Kind::Equals, 1)),
+        [b':', ..] => Some((Kind::Colon, 1)),
+        [b'"', inside @ ..] => Some(text(inside)),
+        [b'0'..=b'9', more @ ..] => {
+            let n = 1 + word_len(more);
+            Some((Kind::Number(number::read(&rest[..n])), n))
         }
-        i = i + 1;
-    }
-    i
-}
-
-// The end of the word that starts at `at`.
-fn word_end(line: &[u8], at: usize) -> usize {
-    let mut i = at;
-    while i < line.len() {
-        if !in_word(line[i]) {
-            return i;
-        }
-        i = i + 1;
-    }
-    i
-}
-
-// Where the text that starts after `at` meets its closing quote, or the line's end.
-fn text_end(line: &[u8], at: usize) -> usize {
-    let mut i = at;
-    while i < line.len() {
-        let b = line[i];
-        if b == b'"' || b == b'\n' {
-            return i;
-        }
-        i = i + 1;
-    }
-    i
-}
-
-// A token of one byte, at a position of the line.
-fn single(line: &[u8], at: usize, kind: Kind) -> Token {
-    let end = if at < line.len() { at + 1 } else { at };
-    Token {
-        kind,
-        start: at,
-        end,
-    }
-}
-
-// The text whose opening quote stands at `start`.
-fn text(line: &[u8], start: usize) -> Token {
-    let first = single(line, start, Kind::OpenText);
-    let i = text_end(line, first.end);
-    if i < line.len() {
-        if line[i] == b'"' {
-            return Token {
-                kind: Kind::Text,
-                start,
-                end: i + 1,
-            };
-        }
-    }
-    Token {
-        kind: Kind::OpenText,
-        start,
-        end: i,
-    }
-}
-
-fn number_token(line: &[u8], start: usize) -> Token {
-    let end = word_end(line, start);
-    let kind = match number::read(line, start, end) {
-        Number::Is(v) => Kind::Number(v),
-        Number::TooBig => Kind::TooBig,
-        Number::Not => Kind::NotNumber,
-    };
-    Token { kind, start, end }
-}
-
-fn word(line: &[u8], start: usize) -> Token {
-    let end = word_end(line, start);
-    if end <= start {
-        return single(line, start, Kind::Stray);
-    }
-    Token {
-        kind: Kind::Word,
-        start,
-        end,
-    }
-}
-
-// The token at or after `at`.
-pub fn next(line: &[u8], at: usize) -> Token {
-    let start = past_blanks(line, at);
-    let b = byte(line, start);
-    match b {
-        b'\n' | b'#' => Token {
-            kind: Kind::End,
-            start: at,
-            end: at,
+        _ => match word_len(rest) {
+            0 => Some((Kind::Stray, 1)),
+            n => Some((Kind::Word, n)),
         },
-        b'=' => single(line, start, Kind::Equals),
-        b':' => single(line, start, Kind::Colon),
-        b'"' => text(line, start),
-        b'0'..=b'9' => number_token(line, start),
-        _ => word(line, start),
+    }
+}
+
+impl<'a> Tokens<'a> {
+    ghost use Rattle.lexer.specs.Left.{left_of, TakesNextOrEnd, IsWithoutFeed};
+
+    // A line, with or without its line feed.
+    pub fn new(line: &'a [u8]) -> Self
+        ensures start { result.at ≡ 0 }
+        ensures line { IsWithoutFeed line.now result.line.now }
+    {
+        match line {
+            [taken @ .., b'\n'] => Tokens { line: taken, at: 0 },
+            _ => Tokens { line, at: 0 },
+        }
+    }
+
+    // The next token, which is `End` where no more comes.
+    pub fn take_or_end(&mut self) -> Token<'a>
+        ensures next { TakesNextOrEnd self.old result self.new }
+        ensures left { left_of self.new ≤ left_of self.old }
+    {
+        let end = Token {
+            kind: Kind::End,
+            start: self.at,
+            text: &[],
+        };
+        self.next().unwrap_or(end)
+    }
+
+    // The next token, left where it is.
+    pub fn peek(self) -> Token<'a>
+        ensures { (after : Tokens) × TakesNextOrEnd self.entry result after }
+    {
+        let mut ahead = self;
+        ahead.take_or_end()
+    }
+}
+
+impl<'a> Iterator for Tokens<'a> {
+    ghost use Rattle.lexer.specs.Left.{left_of, TakesNext};
+
+    type Item = Token<'a>;
+
+    ghost next_gives = { TakesNext };
+
+    ghost remaining = { λ t. at_most (left_of t) };
+
+    // It skips blanks only before a token, so that `End` stands right behind the last one.
+    fn next(&mut self) -> Option<Token<'a>> {
+        let line = self.line;
+        let start = self.at + blanks(&line[self.at..]);
+        let (kind, len) = scan(&line[start..])?;
+        let end = start + len;
+        self.at = end;
+        Some(Token {
+            kind,
+            start,
+            text: &line[start..end],
+        })
     }
 }

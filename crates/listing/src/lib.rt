@@ -2,12 +2,11 @@
 // between commas; after a semicolon come the remarks.
 #![tactic(auto)]
 
-ghost use Rattle.std.specs.Prelude.{◌<◌};
-
 use board::Board;
-use channels::{Fit, Question, Target, phrases};
-use endpoint::{Endpoint, MemoryFields, ReceiveFields, SendFields};
-use form::say;
+use channels::phrases::{Credits, Tile};
+use channels::{Channels, Missing, Place, Reach};
+use endpoint::{Endpoint, MemoryFields, SendFields};
+use form::{Allowed, Plural};
 use std::io::{self, Write};
 
 mod receivers;
@@ -17,91 +16,79 @@ fn activity<W: Write>(out: &mut W, act: u16, running: u16) -> io::Result<()> {
     if act == running {
         return Ok(());
     }
-    say(out, b", of activity # (not running)", &[act as u64])
+    write!(out, ", of activity {act} (not running)")
 }
 
-fn remark<W: Write>(out: &mut W, t: Target, chip: u8, tile: u8) -> io::Result<()> {
-    match t {
-        Target::There => Ok(()),
-        Target::PastMemory => output::text(out, b"; it reaches past the tile's memory"),
-        _ => {
-            output::text(out, b"; its target is not there: ")?;
-            phrases::missing(out, t, chip, tile)
-        }
-    }
+fn not_there<W: Write>(out: &mut W, missing: Missing) -> io::Result<()> {
+    write!(out, "; its target is not there: {missing}")
 }
 
 // ---- send endpoints
 
-fn addressee<W: Write>(out: &mut W, reply: bool, tile: u8, ep: u16) -> io::Result<()> {
-    let v = [tile as u64, ep as u64];
-    if reply {
-        return say(out, b"replies once to tile # endpoint #: ", &v);
-    }
-    say(out, b"sends to tile # endpoint #: ", &v)
+fn addressee<W: Write>(out: &mut W, s: SendFields) -> io::Result<()> {
+    let verb = if s.reply { "replies once" } else { "sends" };
+    write!(out, "{verb} to tile {} endpoint {}: ", s.tgt_tile, s.tgt_ep)
 }
 
 // A message takes 2^msg_sz bytes at most, and 32 of them are its header.
 fn message_size<W: Write>(out: &mut W, msg_sz: u8) -> io::Result<()> {
-    if 11 < msg_sz {
-        return output::text(out, b"messages of no allowed size, ");
+    if msg_sz > 11 {
+        return write!(out, "messages of no allowed size, ");
     }
-    let size = channels::power(msg_sz);
-    if size < 32 {
-        return output::text(out, b"no message fits, ");
+    match channels::power(msg_sz).checked_sub(32) {
+        Some(most) => write!(out, "messages of up to {most} bytes, "),
+        None => write!(out, "no message fits, "),
     }
-    say(out, b"messages of up to # bytes, ", &[size - 32])
 }
 
 // A reply gives a credit back to the endpoint that sent the message; SEND does not look at crd_ep.
-fn credit_back<W: Write>(out: &mut W, reply: bool, crd_ep: u16) -> io::Result<()> {
-    if !reply {
-        return Ok(());
+fn credit_back<W: Write>(out: &mut W, s: SendFields) -> io::Result<()> {
+    match s.crd_ep {
+        _ if !s.reply => Ok(()),
+        65535 => write!(out, ", no credit back"),
+        ep @ 0..64 => write!(out, ", credit back to endpoint {ep}"),
+        ep => write!(out, ", credit back to endpoint {ep}, past the last"),
     }
-    if crd_ep == 65535 {
-        return output::text(out, b", no credit back");
-    }
-    if 64 <= crd_ep {
-        return say(
-            out,
-            b", credit back to endpoint #, past the last",
-            &[crd_ep as u64],
-        );
-    }
-    say(out, b", credit back to endpoint #", &[crd_ep as u64])
 }
 
 fn send<W: Write>(out: &mut W, s: SendFields, running: u16) -> io::Result<()> {
-    addressee(out, s.reply, s.tgt_tile, s.tgt_ep)?;
+    addressee(out, s)?;
     message_size(out, s.msg_sz)?;
-    phrases::credits(out, s.cur_crd, s.max_crd)?;
-    say(out, b", label $", &[s.label])?;
-    credit_back(out, s.reply, s.crd_ep)?;
+    write!(out, "{}, label {:#x}", Credits(s), s.label)?;
+    credit_back(out, s)?;
     activity(out, s.act, running)
 }
 
-// ---- the other kinds
-
-fn receive<W: Write>(out: &mut W, r: ReceiveFields, running: u16) -> io::Result<()> {
-    receivers::slots(out, r)?;
-    receivers::replies(out, r)?;
-    activity(out, r.act, running)
-}
+// ---- memory endpoints
 
 fn memory<W: Write>(out: &mut W, m: MemoryFields, running: u16) -> io::Result<()> {
-    let v = [m.rw as u64, m.tile as u64, m.size, m.size, m.addr];
-    say(out, b"may & tile #: # byte^ from $", &v)?;
+    write!(
+        out,
+        "may {} tile {}: {} byte{} from {:#x}",
+        Allowed(m.rw),
+        m.tile,
+        m.size,
+        Plural(m.size),
+        m.addr
+    )?;
     activity(out, m.act, running)
+}
+
+fn reached<W: Write>(out: &mut W, reach: Result<Reach, Missing>) -> io::Result<()> {
+    match reach {
+        Ok(Reach::Inside) => Ok(()),
+        Ok(Reach::PastTheEnd) => write!(out, "; it reaches past the tile's memory"),
+        Err(missing) => not_there(out, missing),
+    }
 }
 
 // ---- the lines
 
-// The endpoint of that number in words.
-fn open<W: Write>(
+// The rest of an open endpoint's line.
+fn endpoint<W: Write>(
     out: &mut W,
-    b: Board,
-    words: &[u64],
-    number: u64,
+    channels: &Channels<'_>,
+    place: Place,
     e: Endpoint,
     running: u16,
 ) -> io::Result<()> {
@@ -109,80 +96,47 @@ fn open<W: Write>(
         Endpoint::Invalid => Ok(()),
         Endpoint::Send(s) => {
             send(out, s, running)?;
-            remark(
-                out,
-                channels::send_target(b, words, s),
-                s.tgt_chip,
-                s.tgt_tile,
-            )
+            match channels.receiver(s) {
+                Ok(()) => Ok(()),
+                Err(missing) => not_there(out, missing),
+            }
         }
         Endpoint::Receive(r) => {
-            receive(out, r, running)?;
-            receivers::senders(out, b, words, number)
+            receivers::receive(out, r)?;
+            activity(out, r.act, running)?;
+            receivers::senders(out, channels, place)
         }
         Endpoint::Memory(m) => {
             memory(out, m, running)?;
-            remark(out, channels::memory_target(b, m), m.chip, m.tile)
+            reached(out, channels.reach(m))
         }
     }
 }
 
-// The lines of a tile's open endpoints, from one number to another.
-fn all_open<W: Write>(
-    out: &mut W,
-    b: Board,
-    words: &[u64],
-    from: u64,
-    end: u64,
-    running: u16,
-) -> io::Result<()> {
-    let mut number = channels::first(b, words, from, end, Question::IsOpen);
-    while number < end {
-        say(out, b"@  ", &[number % 64])?;
-        open(
-            out,
-            b,
-            words,
-            number,
-            channels::endpoint_at(words, number),
-            running,
-        )?;
-        output::byte(out, b'\n')?;
-        number = channels::first(b, words, number + 1, end, Question::IsOpen);
+fn tile<W: Write>(out: &mut W, channels: &Channels<'_>, tile: Tile) -> io::Result<()> {
+    writeln!(out, "{tile}")?;
+    if !channels.has_open(tile.number) {
+        return writeln!(out, "   nothing is open");
     }
-    Ok(())
-}
-
-fn tile<W: Write>(out: &mut W, b: Board, words: &[u64], t: u64, running: u16) -> io::Result<()>
-    requires { t < 8 }
-{
-    phrases::tile(out, t, running)?;
-    output::byte(out, b'\n')?;
-    let from = t * 64;
-    let end = from + 64;
-    if end <= channels::first(b, words, from, end, Question::IsOpen) {
-        return output::text(out, b"   nothing is open\n");
-    }
-    all_open(out, b, words, from, end, running)
-}
-
-fn all_tiles<W: Write>(out: &mut W, b: Board, words: &[u64], acts: &[u16]) -> io::Result<()> {
-    let n = channels::tiles(b);
-    let mut t: u64 = 0;
-    while t < n {
-        tile(out, b, words, t, channels::activity(acts, t))?;
-        t = t + 1;
+    for (place, e) in channels.endpoints_of(tile.number) {
+        if channels::is_open(e) {
+            write!(out, "{:>4}  ", place.ep)?;
+            endpoint(out, channels, place, e, tile.running)?;
+            writeln!(out)?;
+        }
     }
     Ok(())
 }
 
 pub fn sheet<W: Write>(out: &mut W, b: Board, words: &[u64], acts: &[u16]) -> io::Result<()> {
-    let fit = channels::fit_of(b, words, acts);
-    if let Fit::Right = fit {
-        output::text(out, b"Open channels\n\n")?;
-        return all_tiles(out, b, words, acts);
+    match Channels::of(b, words, acts) {
+        Ok(channels) => {
+            write!(out, "Open channels\n\n")?;
+            for (number, running) in channels.running().iter().copied().enumerate() {
+                tile(out, &channels, Tile { number, running })?;
+            }
+            Ok(())
+        }
+        Err(misfit) => writeln!(out, "No sheet: {misfit}"),
     }
-    output::text(out, b"No sheet: ")?;
-    phrases::refusal(out, b, words, acts, fit)?;
-    output::byte(out, b'\n')
 }

@@ -6,7 +6,8 @@ use mathlib.Core.Path.{◌≡◌, refl}
 use native.Mathlib.Omega.{arith}
 use lib.Dec.{eqb}
 use lib.ListN.{length, get_or}
-use Rattle.numbers.specs.Choice.{◌gives◌else◌}
+use Rattle.std.specs.Prelude.{if◌then◌else◌, Some, None}
+use lib.Pointwise.{bytes_decides}
 use Rattle.numbers.specs.Tests.{Test, All}
 use Rattle.numbers.specs.Tests.Test.{equal}
 use Rattle.endpoint.specs.Layout.{flag}
@@ -17,16 +18,15 @@ use Rattle.endpoint.specs.declared.MemoryFields.{MemoryFields}
 use Rattle.endpoint.specs.declared.Endpoint.{Endpoint}
 use Rattle.endpoint.specs.declared.Endpoint.TheVariants.{Invalid, Send, Receive, Memory}
 use Rattle.endpoint.proofs.EndpointLaws.{flag_lt}
-use Rattle.lists.specs.Fields.{field_values, send_at, receive_at, memory_at, read_list, names, nothing, same_list, endpoint_of}
+use Rattle.lists.specs.Fields.{field_values, send_at, receive_at, memory_at, read_list, same_list, endpoint_of}
 use Rattle.lists.specs.Inverse.{Inverse}
-use Rattle.lists.proofs.ListLaws.{same_true, true_same}
 
 -- ---- what is read from a list fits, and an endpoint that fits is read back from its list
 read_fits : (l : List ℕ) → All (fits (read_list l))
-unfolding read_list ◌gives◌else◌
+unfolding read_list
 read_fits l = go (eqb (get_or l 0 0) 1) (eqb (get_or l 0 0) 2) (eqb (get_or l 0 0) 3)
   where
-    go : (a b c : Bool) → All (fits (a gives Send (send_at l) else b gives Receive (receive_at l) else c gives Memory (memory_at l) else Invalid))
+    go : (a b c : Bool) → All (fits (if a then Send (send_at l) else if b then Receive (receive_at l) else if c then Memory (memory_at l) else Invalid))
     go true b c = omega (arith, flag_lt (eqb (get_or l 6 0) 1))
     go false true c = omega arith
     go false false true = omega arith
@@ -55,7 +55,7 @@ memory_kept : (x : MemoryFields) → All (fits (Memory x))
 memory_kept x h = omega arith
 
 read_back : (e : Endpoint) → All (fits e) → read_list (field_values e) ≡ e
-unfolding read_list ◌gives◌else◌
+unfolding read_list
 read_back Invalid h = refl
 read_back (Send s) h =
     let p = send_kept s h in
@@ -103,16 +103,15 @@ eleven (Send s) = refl
 eleven (Receive r) = refl
 eleven (Memory x) = refl
 
-named_from : (b : Bool) (x e : Endpoint) → (b gives names x else nothing) ≡ names e → (b ≡ true) × (x ≡ e)
-unfolding ◌gives◌else◌
+named_from : (b : Bool) (x e : Endpoint) → (if b then Some x else None) ≡ Some e → (b ≡ true) × (x ≡ e)
 named_from true x e h = (refl, cc)
 named_from false x e h = let z : ◌≡◌ {A = ℕ} 0 1 = cc in absurd (omega arith)
 
 pub inverse : Inverse
-unfolding endpoint_of ◌gives◌else◌
+unfolding endpoint_of
 inverse l e = (
   (λ h.
       let p = named_from (same_list (field_values (read_list l)) l) (read_list l) e h in
-      rw (← p.1) (same_true (field_values (read_list l)) l p.0, read_fits l)),
-  (λ h. rw (← h.0, read_back e h.1, true_same (field_values e))),
+      rw (← p.1) ((bytes_decides (field_values (read_list l)) l).0 p.0, read_fits l)),
+  (λ h. rw (← h.0, read_back e h.1, (bytes_decides (field_values e) (field_values e)).1 refl)),
 )

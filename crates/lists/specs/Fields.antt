@@ -1,13 +1,14 @@
 -- An endpoint as eleven numbers, as `include/tcu.h` names their places: the kind (INVALID 0, SEND 1, RECEIVE 2, MEMORY 3), the fields
 -- of that kind in order, and zeros. Read both ways: a list names an endpoint when it is that endpoint's own list. That the kind is at
 -- most 3, that no field is too large for its bits, that reply is 0 or 1 and that unused numbers are zero is thereby said.
-use Rattle.std.specs.Prelude.{ℕ, ◌%◌, ◌^◌, Bool, true, false, ◌&&◌, List, [], ◌∷◌, eqb, get_or}
-use Rattle.numbers.specs.Choice.{◌gives◌else◌}
+use Rattle.std.specs.Prelude.{ℕ, ◌%◌, ◌^◌, Bool, List, [], ◌∷◌, Option, Some, None, Result, Err, if◌then◌else◌, eqb, get_or}
+use Rattle.std.specs.Cmp.Lexicographic.{pointwise}
+use Rattle.answers.specs.declared.Error.{Error}
 use Rattle.answers.specs.declared.Error.TheVariants.{BadMachine, BadConfig}
 use Rattle.board.specs.Board.{memory_allowed}
 use Rattle.endpoint.specs.Layout.{flag}
 use Rattle.endpoint.specs.Turning.{pack_of}
-use Rattle.endpoint.specs.declared.Packed.{Packed}
+use Rattle.endpoint.specs.declared.Words.{Words}
 use Rattle.endpoint.specs.declared.SendFields.{SendFields}
 use Rattle.endpoint.specs.declared.ReceiveFields.{ReceiveFields}
 use Rattle.endpoint.specs.declared.MemoryFields.{MemoryFields}
@@ -62,28 +63,21 @@ memory_at l = record { act = cut l 1 16; rw = cut l 2 2; tile = cut l 3 8; chip 
 
 unfoldable pub read_list : List ℕ → Endpoint
 read_list l =
-    eqb (get_or l 0 0) 1 gives Send (send_at l) else
-    eqb (get_or l 0 0) 2 gives Receive (receive_at l) else
-    eqb (get_or l 0 0) 3 gives Memory (memory_at l) else Invalid
+    if eqb (get_or l 0 0) 1 then Send (send_at l) else
+    if eqb (get_or l 0 0) 2 then Receive (receive_at l) else
+    if eqb (get_or l 0 0) 3 then Memory (memory_at l) else Invalid
 
 -- ---- the endpoint that a list names
-pub data Named : Type 0 where
-  names : Endpoint → Named
-  nothing : Named
+abbrev pub same_list : List ℕ → List ℕ → Bool
+same_list k l = pointwise eqb k l
 
-unfoldable pub same_list : List ℕ → List ℕ → Bool
-same_list [] [] = true
-same_list [] (y ∷ l) = false
-same_list (x ∷ k) [] = false
-same_list (x ∷ k) (y ∷ l) = eqb x y && same_list k l
-
-unfoldable pub endpoint_of : List ℕ → Named
-endpoint_of l = same_list (field_values (read_list l)) l gives names (read_list l) else nothing
+unfoldable pub endpoint_of : List ℕ → Option Endpoint
+endpoint_of l = if same_list (field_values (read_list l)) l then Some (read_list l) else None
 
 -- the eleven numbers l into words: BAD_CONFIG where they name no endpoint
-unfoldable pub pack_named : ℕ → Named → Packed
-pack_named m (names e) = pack_of m e
-pack_named m nothing = Packed.Refused BadConfig
+unfoldable pub pack_named : ℕ → Option Endpoint → Result Words Error
+pack_named m (Some e) = pack_of m e
+pack_named m None = Err BadConfig
 
-unfoldable pub pack_list : ℕ → List ℕ → Packed
-pack_list m l = memory_allowed m gives pack_named m (endpoint_of l) else Packed.Refused BadMachine
+unfoldable pub pack_list : ℕ → List ℕ → Result Words Error
+pack_list m l = if memory_allowed m then pack_named m (endpoint_of l) else Err BadMachine

@@ -2,34 +2,29 @@
 #![tactic(auto)]
 
 ghost use Rattle.std.specs.Prelude.{◌≡◌, length};
-ghost use Rattle.endpoint.specs.Layout.{flag};
-ghost use Rattle.lists.specs.Fields.{field_values, send_at, receive_at, memory_at, read_list, same_list, pack_list};
+ghost use Rattle.lists.specs.Fields.{field_values, send_at, receive_at, memory_at, read_list, endpoint_of, pack_list};
 
-use answers::Error;
-use endpoint::{Endpoint, MemoryFields, Packed, ReceiveFields, SendFields};
+use answers::{Error, check};
+use endpoint::{Endpoint, MemoryFields, ReceiveFields, SendFields, Words};
 
+// The numbers, their order and the number of a kind are the C interface's (`include/tcu.h`): each field stands once in each direction.
 // ---- an endpoint into numbers
 
-fn bit(b: bool) -> u64
-    ensures { result ≡ flag b }
-{
-    if b { 1 } else { 0 }
-}
-
+#[tactic(auto, using(endpoint::proofs::EndpointLaws::flag_as))]
 fn send_values(s: SendFields) -> [u64; 11]
     ensures { result ≡ field_values (Endpoint.Send s) }
 {
     [
         1,
-        s.act as u64,
-        s.cur_crd as u64,
-        s.max_crd as u64,
-        s.msg_sz as u64,
-        s.crd_ep as u64,
-        bit(s.reply),
-        s.tgt_ep as u64,
-        s.tgt_tile as u64,
-        s.tgt_chip as u64,
+        u64::from(s.act),
+        u64::from(s.cur_crd),
+        u64::from(s.max_crd),
+        u64::from(s.msg_sz),
+        u64::from(s.crd_ep),
+        u64::from(s.reply),
+        u64::from(s.tgt_ep),
+        u64::from(s.tgt_tile),
+        u64::from(s.tgt_chip),
         s.label,
     ]
 }
@@ -39,15 +34,15 @@ fn receive_values(r: ReceiveFields) -> [u64; 11]
 {
     [
         2,
-        r.act as u64,
-        r.rpl_eps as u64,
-        r.slots as u64,
-        r.slot_size as u64,
-        r.wpos as u64,
-        r.rpos as u64,
+        u64::from(r.act),
+        u64::from(r.rpl_eps),
+        u64::from(r.slots),
+        u64::from(r.slot_size),
+        u64::from(r.wpos),
+        u64::from(r.rpos),
         r.buffer,
-        r.occupied as u64,
-        r.unread as u64,
+        u64::from(r.occupied),
+        u64::from(r.unread),
         0,
     ]
 }
@@ -57,10 +52,10 @@ fn memory_values(m: MemoryFields) -> [u64; 11]
 {
     [
         3,
-        m.act as u64,
-        m.rw as u64,
-        m.tile as u64,
-        m.chip as u64,
+        u64::from(m.act),
+        u64::from(m.rw),
+        u64::from(m.tile),
+        u64::from(m.chip),
         m.addr,
         m.size,
         0,
@@ -81,27 +76,15 @@ fn values(e: Endpoint) -> [u64; 11]
     }
 }
 
-fn copy(fields: &mut [u64], from: &[u64; 11])
-    requires { (length fields.old ≡ 11) × (length from.now ≡ 11) }
-    ensures { fields.new ≡ from.now }
-{
-    let mut i = 0;
-    while i < 11 {
-        fields[i] = from[i];
-        i += 1;
-    }
-}
-
 // The list becomes that of an endpoint.
 pub fn write(fields: &mut [u64], e: Endpoint)
     requires { length fields.old ≡ 11 }
     ensures { fields.new ≡ field_values e }
 {
-    let v = values(e);
-    copy(fields, &v);
+    fields.copy_from_slice(&values(e));
 }
 
-// ---- numbers into an endpoint
+// ---- numbers into an endpoint: `as` keeps the number, since `%` has cut it to the bits of its field
 
 fn read_send(fields: &[u64]) -> SendFields
     requires { length fields.now ≡ 11 }
@@ -152,12 +135,12 @@ fn read_memory(fields: &[u64]) -> MemoryFields
     }
 }
 
+#[tactic(auto, unfolding(crate::specs::Fields::read_list))]
 fn read(fields: &[u64]) -> Endpoint
     requires { length fields.now ≡ 11 }
     ensures { result ≡ read_list fields.now }
 {
-    let kind = fields[0];
-    match kind {
+    match fields[0] {
         1 => Endpoint::Send(read_send(fields)),
         2 => Endpoint::Receive(read_receive(fields)),
         3 => Endpoint::Memory(read_memory(fields)),
@@ -165,32 +148,23 @@ fn read(fields: &[u64]) -> Endpoint
     }
 }
 
-fn same(own: &[u64; 11], fields: &[u64]) -> bool
-    requires { (length own.now ≡ 11) × (length fields.now ≡ 11) }
-    ensures { result ≡ same_list own.now fields.now }
+// The endpoint that a list names, if it is the list of one.
+#[tactic(auto, unfolding(crate::specs::Fields::endpoint_of))]
+fn named(fields: &[u64]) -> Option<Endpoint>
+    requires { length fields.now ≡ 11 }
+    ensures { result ≡ endpoint_of fields.now }
 {
-    let mut i = 0;
-    while i < 11 {
-        if own[i] != fields[i] {
-            return false;
-        }
-        i += 1;
-    }
-    true
+    let e = read(fields);
+    (values(e).as_slice() == fields).then_some(e)
 }
 
 // The words of the endpoint that a list names.
-pub fn pack(memory: u64, fields: &[u64]) -> Packed
+#[tactic(auto, unfolding(crate::specs::Fields::pack_list, crate::specs::Fields::pack_named))]
+pub fn pack(memory: u64, fields: &[u64]) -> Result<Words, Error>
     requires { length fields.now ≡ 11 }
     ensures { result ≡ pack_list memory fields.now }
 {
-    if !board::memory_allowed(memory) {
-        return Packed::Refused(Error::BadMachine);
-    }
-    let e = read(fields);
-    let own = values(e);
-    if !same(&own, fields) {
-        return Packed::Refused(Error::BadConfig);
-    }
+    check(board::memory_allowed(memory), Error::BadMachine)?;
+    let e = named(fields).ok_or(Error::BadConfig)?;
     endpoint::pack(memory, e)
 }

@@ -17,8 +17,8 @@ use Rattle.endpoint.specs.declared.MemoryFields.{MemoryFields}
 use Rattle.table.specs.Words.{words_nth}
 use Rattle.table.specs.Good.{acceptable_at, good_table}
 use Rattle.command.specs.Checks.{first}
-use Rattle.command.specs.Local.{outside, local_at}
-use Rattle.access.specs.Access.{remote_checks, remote_at}
+use Rattle.command.specs.Local.{outside}
+use Rattle.access.specs.Access.{remote_checks}
 use Rattle.delivery.specs.Delivery.{slot_at}
 use Rattle.machine.specs.Machine.{machine_right}
 use Rattle.machine.specs.Equal.{remote_before, MachineAsBefore}
@@ -34,7 +34,6 @@ module _ (b : Board) (m : ℕ) (same : AsBefore b m) where
       (λ h. all_true now (b.tiles * 64) (λ q l. rw (same.same_size (q / 64) (omega arith)) (all_at before (b.tiles * 64) h q l)))
 
   remote_same : (f : MemoryFields) (off size : ℕ) → first (remote_checks b f off size) ≡ first (remote_before b m f off size)
-  unfolding remote_checks first
   remote_same f off size = go (leb b.tiles f.tile) refl
     where
       go : (x : Bool) → leb b.tiles f.tile ≡ x → first (remote_checks b f off size) ≡ first (remote_before b m f off size)
@@ -42,7 +41,7 @@ module _ (b : Board) (m : ℕ) (same : AsBefore b m) where
       go false p = rw (same.same_size f.tile (leb-false b.tiles f.tile p))
 
   machine_as_before : MachineAsBefore b m
-  unfolding machine_right outside local_at remote_at slot_at
+  unfolding machine_right outside slot_at
   machine_as_before = record {
     right = λ ws sh bs. rw (same.same_right, good_same ws);
     configurable = λ tile w l. rw (same.same_size tile l);

@@ -7,13 +7,11 @@ use mathlib.Core.Path.{◌≡◌, refl, sym, ap, ◌∙◌}
 use native.Mathlib.Omega.{arith}
 use lib.Dec.{eqb, leb}
 use borrow.Author.Tests.{leb-false, not-true, not-false}
-use Rattle.numbers.specs.Choice.{◌gives◌else◌}
+use Rattle.std.specs.Prelude.{if◌then◌else◌, Ok, Option, Some, None}
 use Rattle.numbers.specs.Tests.{All}
 use Rattle.numbers.proofs.TestLaws.{split_and, true_all}
 use Rattle.numbers.proofs.SumLaws.{above_false}
-use Rattle.answers.specs.declared.Answer.TheVariants.{None}
-use Rattle.bits.specs.declared.Found.{Found}
-use Rattle.bits.specs.declared.Found.TheVariants.{At, Nothing}
+use Rattle.bits.specs.declared.Slot.{Slot}
 use Rattle.board.specs.declared.Board.{Board}
 use Rattle.endpoint.specs.Kinds.{is_invalid, is_send, is_receive, send_of, receive_of}
 use Rattle.endpoint.specs.Acceptable.{fits, acceptable}
@@ -30,12 +28,12 @@ use Rattle.slots.specs.Slots.{slots_of, free_slot, unread_slot, slot_named, rang
 use Rattle.slots.proofs.RecordLaws.{filled_ok, fetched_ok, cleared_ok}
 use Rattle.slots.proofs.SlotFacts.{usable, found_free, found_unread}
 use Rattle.command.specs.Checks.{first, ◌then◌}
-use Rattle.command.specs.Command.{is_nothing, slot_of, does, ◌noting◌, nothing, ◌▸◌, ◌▸▸◌, send◌or◌gives◌, receive◌or◌gives◌, slot◌or◌gives◌, slot◌else◌gives◌}
+use Rattle.command.specs.Command.{is_none, slot_of, does, ◌noting◌, nothing, send◌or◌gives◌, receive◌or◌gives◌, slot◌or◌gives◌, slot◌else◌gives◌}
 use Rattle.command.specs.declared.Registers.{Registers}
 use Rattle.command.proofs.CheckFacts.{passed}
 use Rattle.command.proofs.WriteLaws.{Fit, Fits}
-use Rattle.delivery.specs.Delivery.{message_checks, far_checks, fit_checks, delivered, arrival}
-use Rattle.messages.specs.Send.{last_checks, send_checks, sep_of, rsize_of, request, reply_to, reply_placed, credit_spent, send_writes, request_of, SEND}
+use Rattle.delivery.specs.Delivery.{message_checks, delivered, arrival, landing}
+use Rattle.messages.specs.Send.{send_checks, sep_of, rsize_of, request, reply_to, reply_placed, credit_spent, send_writes, request_of, SEND}
 use Rattle.messages.specs.Reply.{from_checks, reply_checks, response, creditable, credited, credit_to, credit_returned, reply_gone, slot_freed, reply_writes, response_of, answer_of, REPLY}
 use Rattle.delivery.specs.declared.Header.{Header}
 use Rattle.receive.specs.Fetch.{fetch_writes, FETCH}
@@ -87,14 +85,14 @@ excepted false q h e = not-false q h
 
 -- a reply range that is there ends at or below 64
 range_ends : (r : ReceiveFields) → range_bad r ≡ false → eqb r.rpl_eps 65535 ≡ false → r.rpl_eps + slots_of r ≤ 64
-unfolding range_bad range_past ◌gives◌else◌
+unfolding range_bad range_past
 range_ends r h e = above_false (r.rpl_eps + slots_of r) 64 (rw e at h)
 
 sep_lt : (ep : ℕ) (s : SendFields) → ep < 64 → sep_of ep s < 65536
-unfolding sep_of ◌gives◌else◌
+unfolding sep_of
 sep_lt ep s l = go (eqb s.cur_crd 63)
   where
-    go : (p : Bool) → (p gives 65535 else ep) < 65536
+    go : (p : Bool) → (if p then 65535 else ep) < 65536
     go true = omega arith
     go false = omega arith
 
@@ -106,15 +104,11 @@ pub record Stands (b : Board) (tile ep : ℕ) (x : Endpoint) : Type 0 where
 
 -- ---- the writes that SEND and REPLY share, or that have fields of their own
 -- the slot that was found is one of the receiver's
-slot_below : (m : ℕ) (r : ReceiveFields) → acceptable m (Receive r) ≡ true → is_nothing (free_slot r) ≡ false → slot_of (free_slot r) < slots_of r
-slot_below m r ok h = go (free_slot r) refl h
-  where
-    go : (x : Found) → free_slot r ≡ x → is_nothing x ≡ false → slot_of x < slots_of r
-    go (At i d) e k = found_free r (free_slot r) i d (usable m r ok) refl e
-    go Nothing e k = let z : ◌≡◌ {A = ℕ} 0 1 = cc in absurd (omega arith)
+slot_below : (m : ℕ) (r : ReceiveFields) → acceptable m (Receive r) ≡ true → is_none (free_slot r) ≡ false → slot_of (free_slot r) < slots_of r
+slot_below m r ok h = found_free r (usable m r ok) h
 
 -- a message comes into it
-arrival_fits : (b : Board) (tile ep : ℕ) (r : ReceiveFields) → Stands b tile ep (Receive r) → is_nothing (free_slot r) ≡ false
+arrival_fits : (b : Board) (tile ep : ℕ) (r : ReceiveFields) → Stands b tile ep (Receive r) → is_none (free_slot r) ≡ false
     → Fit b (Receive (filled r (slot_of (free_slot r)))) (place tile ep)
 arrival_fits b tile ep r y h =
     let m = memory_at b (place tile ep) in
@@ -169,23 +163,23 @@ module _ (b : Board) (t : Table) (good : (q : ℕ) → q < b.tiles * 64 → acce
   -- ---- each command, by a tile of the board
   module _ (tile ep : ℕ) (on : tile < b.tiles) where
     -- check 0: the endpoint receives
-    pub fetch_fits : (own : ℕ) → first (FETCH t own tile ep).checks ≡ None → Fits b (FETCH t own tile ep).effect.writes
-    unfolding FETCH fetch_writes ◌▸◌ does ◌noting◌ receive◌or◌gives◌ slot◌else◌gives◌
+    pub fetch_fits : (own : ℕ) → first (FETCH t own tile ep).checks ≡ Ok tt → Fits b (FETCH t own tile ep).effect.writes
+    unfolding FETCH fetch_writes
     fetch_fits own h =
         let r = receive_of (endpoint_at t tile ep) in
         let x = receives tile ep on (not-false (is_receive (endpoint_at t tile ep)) (passed (FETCH t own tile ep).checks h 0)) in
         go r x (unread_slot r) refl
       where
-        go : (r : ReceiveFields) → Stands b tile ep (Receive r) → (u : Found) → unread_slot r ≡ u
+        go : (r : ReceiveFields) → Stands b tile ep (Receive r) → (u : Option Slot) → unread_slot r ≡ u
             → Fits b (slot u else does [] nothing 18446744073709551615 gives λ i. does (fetch_writes tile ep r i) nothing (i * 2 ^ r.slot_size) noting Read).effect.writes
-        go r x (At i d) e =
+        go r x (Some s₀) e =
             let m = memory_at b (place tile ep) in
-            ((λ _. record { there = x.there; ok = fetched_ok m r x.ok i (found_unread r (unread_slot r) i d (usable m r x.ok) refl e) }), tt)
-        go r x Nothing e = tt
+            ((λ _. record { there = x.there; ok = fetched_ok m r x.ok s₀.index (rw e at (found_unread r (usable m r x.ok) (rw e))) }), tt)
+        go r x None e = tt
 
     -- checks 0: the endpoint receives; 1: its reply range; 3: the slot is one of its own
-    pub ack_fits : (own : ℕ) (a : Registers) → first (ACK_MSG t own tile ep a).checks ≡ None → Fits b (ACK_MSG t own tile ep a).effect.writes
-    unfolding ACK_MSG ack_checks ack_writes ◌then◌ ◌▸◌ ◌▸▸◌ does ◌noting◌ receive◌or◌gives◌
+    pub ack_fits : (own : ℕ) (a : Registers) → first (ACK_MSG t own tile ep a).checks ≡ Ok tt → Fits b (ACK_MSG t own tile ep a).effect.writes
+    unfolding ACK_MSG ack_checks ack_writes
     ack_fits own a h =
         let ok = passed (ACK_MSG t own tile ep a).checks h in
         let r = receive_of (endpoint_at t tile ep) in
@@ -203,8 +197,8 @@ module _ (b : Board) (t : Table) (good : (q : ℕ) → q < b.tiles * 64 → acce
 
     -- checks 0: the endpoint receives; 4: the slot is one of its own; 5: the reply endpoint sends; 14: the target's tile is there;
     -- 15: the target receives; 18: a slot is free
-    pub reply_fits : (sh bs : List ℕ) (own : ℕ) (a : Registers) → first (REPLY b t sh bs own tile ep a).checks ≡ None → Fits b (REPLY b t sh bs own tile ep a).effect.writes
-    unfolding REPLY answer_of response_of credit_to credit_returned reply_gone slot_freed from_checks reply_checks message_checks delivered far_checks fit_checks reply_writes arrival response creditable credited ◌then◌ ◌▸◌ ◌▸▸◌ does ◌noting◌ send◌or◌gives◌ receive◌or◌gives◌ slot◌or◌gives◌
+    pub reply_fits : (sh bs : List ℕ) (own : ℕ) (a : Registers) → first (REPLY b t sh bs own tile ep a).checks ≡ Ok tt → Fits b (REPLY b t sh bs own tile ep a).effect.writes
+    unfolding REPLY answer_of response_of credit_to credit_returned reply_gone slot_freed from_checks reply_checks message_checks delivered landing reply_writes arrival response creditable credited
     reply_fits sh bs own a h =
         let ok = passed (REPLY b t sh bs own tile ep a).checks h in
         let g = receive_of (endpoint_at t tile ep) in
@@ -236,7 +230,7 @@ module _ (b : Board) (t : Table) (good : (q : ℕ) → q < b.tiles * 64 → acce
       -- the reply endpoint of a SEND whose arg0 names a receive endpoint: the header's fields fit its own
       told_ok : (m n : ℕ) (s : SendFields) (r : ReceiveFields) → ep < 64 → acceptable m (Receive r) ≡ true
           → eqb a.arg0 65535 ≡ false → is_receive (endpoint_at t tile a.arg0) ≡ true → acceptable n (Send (reply_to r (request t tile ep s a))) ≡ true
-      unfolding request rsize_of ◌gives◌else◌
+      unfolding request rsize_of
       told_ok m n s r low ok named is =
           let w = receives tile a.arg0 on is in
           let u = usable (memory_at b (place tile a.arg0)) (receive_of (endpoint_at t tile a.arg0)) w.ok in
@@ -246,8 +240,8 @@ module _ (b : Board) (t : Table) (good : (q : ℕ) → q < b.tiles * 64 → acce
 
       -- checks 0: the endpoint sends; 7: arg0 names a receive endpoint, if any; 11: the target's tile is there; 12: the target
       -- receives; 14: its reply range; 15: a slot is free
-      pub send_fits : (sh bs : List ℕ) (own : ℕ) → first (SEND b t sh bs own tile ep a).checks ≡ None → Fits b (SEND b t sh bs own tile ep a).effect.writes
-      unfolding SEND request_of reply_placed credit_spent send_checks message_checks last_checks delivered far_checks fit_checks send_writes arrival request ◌then◌ ◌▸◌ ◌▸▸◌ does ◌noting◌ send◌or◌gives◌ receive◌or◌gives◌ slot◌or◌gives◌
+      pub send_fits : (sh bs : List ℕ) (own : ℕ) → first (SEND b t sh bs own tile ep a).checks ≡ Ok tt → Fits b (SEND b t sh bs own tile ep a).effect.writes
+      unfolding SEND request_of reply_placed credit_spent send_checks message_checks delivered landing send_writes arrival request
       send_fits sh bs own h =
           let ok = passed (SEND b t sh bs own tile ep a).checks h in
           let s = send_of (endpoint_at t tile ep) in

@@ -2,7 +2,6 @@ pub mod HostLaws
 pub mod PrivilegedLaws
 pub mod Fitting
 pub mod Noting
-pub mod LeftLaws
 pub mod Kept
 pub mod Demand1
 pub mod Numbers

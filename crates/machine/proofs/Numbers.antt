@@ -1,15 +1,8 @@
 -- P1 to P10, by computation. Assumes nothing.
 use mathlib.Core.Path.{refl}
-use Rattle.numbers.specs.Choice.{◌gives◌else◌}
-use Rattle.numbers.specs.Sums.{◌above◌}
-use Rattle.bits.specs.Search as search-loops
-use Rattle.bits.specs.Slots.{find_slot}
 use Rattle.endpoint.proofs.Numbers as endpoint-numbers
 use Rattle.table.specs.Table.{endpoint_at, upd}
 use Rattle.slots.specs.Slots.{free_slot, unread_slot, slot_named, range_past, range_bad, fetched}
-use Rattle.command.specs.Checks.{first}
-use Rattle.command.specs.Command.{does, ◌noting◌, ◌▸◌, receive◌or◌gives◌, slot◌else◌gives◌}
-use Rattle.command.specs.Outcome.{tabled}
 use Rattle.command.specs.Local.{crosses_page}
 use Rattle.delivery.specs.Delivery.{too_long, message_checks}
 use Rattle.receive.specs.Fetch.{fetch_writes, FETCH}
@@ -17,7 +10,7 @@ use Rattle.receive.specs.Ack.{ack_checks}
 use Rattle.machine.specs.Numbers.{Numbers}
 
 pub numbers : Numbers
-unfolding ◌gives◌else◌ ◌above◌ search-loops.first find_slot endpoint_at upd free_slot unread_slot slot_named range_past range_bad fetched first does ◌noting◌ ◌▸◌ receive◌or◌gives◌ slot◌else◌gives◌ tabled crosses_page too_long message_checks fetch_writes FETCH ack_checks
+unfolding endpoint_at upd free_slot unread_slot slot_named range_past range_bad fetched crosses_page too_long message_checks fetch_writes FETCH ack_checks
 numbers =
     record {
       p1 = endpoint-numbers.p1;

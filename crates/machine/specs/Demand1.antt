@@ -1,15 +1,14 @@
 -- Demand 1: every call answers NONE or a refusal that document 01 lists for it, and a refusal changes nothing. ARG_1 comes back
 -- as given, except from a FETCH that answers 0. No second answer or end state fits.
-use Rattle.std.specs.Prelude.{ℕ, ◌≡◌}
+use Rattle.std.specs.Prelude.{ℕ, ◌≡◌, Result, Ok, Err}
 use mathlib.Core.List.{List, [], ◌∷◌, ◌++◌, Memᴰ}
 use Rattle.answers.specs.declared.Error.{Error}
 use Rattle.answers.specs.declared.Error.TheVariants.{NoMep, NoSep, NoRep, ForeignEp, SendReplyEp, RecvGone, RecvNoSpace, RepliesDisabled, OutOfBounds, NoCredits, NoPerm, InvMsgOff, Abort, UnknownCmd, RecvOutOfBounds, RecvInvRplEps, SendInvCrdEp, SendInvMsgSz, TimeoutNoc, PageBoundary, MsgUnaligned, BadMachine, NoSuchTile, BadEp, BadConfig}
-use Rattle.answers.specs.declared.Answer.{Answer}
-use Rattle.answers.specs.declared.Answer.TheVariants.{None, Refused}
+use Rattle.answers.specs.Answers.{Answer}
 use Rattle.board.specs.declared.Board.{Board}
 use Rattle.endpoint.specs.declared.Words.{Words}
 use Rattle.command.specs.Command.{Command}
-use Rattle.command.specs.Outcome.{completes, carried}
+use Rattle.command.specs.Outcome.{Handed, handed, completes, carried}
 use Rattle.command.specs.declared.Registers.{Registers}
 use Rattle.command.specs.declared.Completion.{Completion}
 use Rattle.machine.specs.Machine.{Opcode, op_idle, op_send, op_reply, op_read, op_write, op_fetch, op_ack, op_other, opcode_of, command_of, configure_of, invalidate_of, privileged_of, respond_of, left, left_by}
@@ -50,17 +49,19 @@ privileged_refusals = host_refusals ++ (UnknownCmd ∷ [])
 -- ---- one call of a tile: the command k, given x as ARG_1, on the words ws, the sharing records sh and the bytes bs
 -- NONE, or a refusal in the list
 abbrev pub From : List Error → Answer → Type 0
-From l None = Unit {0}
-From l (Refused e) = Memᴰ e l
+From l (Ok x) = Unit {0}
+From l (Err e) = Memᴰ e l
 
 pub record Settles (x : ℕ) (ws sh bs : List ℕ) (tile : ℕ) (l : List Error) (k : Command) : Type 0 where
   -- the answer is in the list
   pub listed : From l (carried x ws bs k).completion.answer
   -- a refusal changes no word, no record and no byte, and gives ARG_1 back
-  pub unchanged : (e : Error) → (carried x ws bs k).completion.answer ≡ Refused e → left_by sh tile (carried x ws bs k) ≡ left (completes (Refused e) x) ws sh bs
+  pub unchanged : (e : Error) → (carried x ws bs k).completion.answer ≡ Err e → left_by sh tile (carried x ws bs k) ≡ left (completes (Err e) x) ws sh bs
   -- no second answer or end state fits
-  pub only : (r s : Completion) (v w p q c d : List ℕ) → left r v p c ≡ left_by sh tile (carried x ws bs k) → left s w q d ≡ left_by sh tile (carried x ws bs k)
+  pub only : (r s : Handed) (v w p q c d : List ℕ) → left r v p c ≡ left_by sh tile (carried x ws bs k) → left s w q d ≡ left_by sh tile (carried x ws bs k)
       → (r ≡ s) × (v ≡ w) × (p ≡ q) × (c ≡ d)
+  -- nor do two results of the code say the same
+  pub only_result : (r s : Result Completion Error) → handed x r ≡ handed x s → r ≡ s
 
 pub record Demand1 : Type 0 where
   pub command : (b : Board) (ws sh bs : List ℕ) (tile op ep : ℕ) (a : Registers)

@@ -1,3 +1,4 @@
+pub mod Lent
 pub mod Machine
 pub mod Kept
 pub mod Demand1

@@ -1,8 +1,8 @@
 -- One call of the machine. The host's refusals come first: BAD_MACHINE where a size is broken, or the table or a sharing record is not good, then
 -- NO_SUCH_TILE; configure and invalidate then give BAD_EP, and configure gives BAD_CONFIG. Then the command's own checks.
 -- Opcodes: IDLE 0, SEND 1, REPLY 2, READ 3, WRITE 4, FETCH 5, ACK_MSG 6; others 15.
-use Rattle.std.specs.Prelude.{ℕ, ◌%◌, Bool, true, not, ◌&&◌, List, [], ◌∷◌, eqb, leb, length}
-use Rattle.numbers.specs.Choice.{◌gives◌else◌}
+use Rattle.std.specs.Prelude.{ℕ, ◌%◌, Bool, true, not, ◌&&◌, List, [], ◌∷◌, eqb, leb, length, Result, Ok, Err, if◌then◌else◌}
+use Rattle.answers.specs.declared.Error.{Error}
 use Rattle.answers.specs.declared.Error.TheVariants.{UnknownCmd, BadMachine, NoSuchTile, BadEp, BadConfig}
 use Rattle.board.specs.Board.{size_of, sizes_right}
 use Rattle.board.specs.declared.Board.{Board}
@@ -14,31 +14,30 @@ use Rattle.table.specs.Table.{Table, place, view}
 use Rattle.table.specs.Good.{good_table}
 use Rattle.sharing.specs.Sharing.{word_at, sharing_good, own_of, waiting_in}
 use Rattle.sharing.specs.Note.{noted}
+use Rattle.sharing.specs.declared.Waiting.{Waiting}
 use Rattle.sharing.specs.declared.Note.TheVariants.{Exchanged, Responded}
 use Rattle.command.specs.Checks.{Check, ◌⇒◌, first, ◌fails◌else◌}
 use Rattle.command.specs.Command.{Command, ◌⇐◌to◌, nothing, does, ◌noting◌, ◌▸◌, ◌▸▸◌}
-use Rattle.command.specs.Outcome.{Outcome}
-use Rattle.command.specs.declared.Completion.{Completion}
+use Rattle.command.specs.Outcome.{Handed, Outcome}
 use Rattle.command.specs.declared.Registers.{Registers}
 use Rattle.access.specs.Access.{READ, WRITE}
 use Rattle.receive.specs.Fetch.{FETCH}
 use Rattle.receive.specs.Ack.{ACK_MSG}
 use Rattle.messages.specs.Send.{SEND}
 use Rattle.messages.specs.Reply.{REPLY}
-use Rattle.machine.specs.declared.Waits.{Waits}
 
 pub data Opcode : Type 0 where
   op_idle op_send op_reply op_read op_write op_fetch op_ack op_other : Opcode
 
 unfoldable pub opcode_of : ℕ → Opcode
 opcode_of n =
-    eqb n 0 gives op_idle else
-    eqb n 1 gives op_send else
-    eqb n 2 gives op_reply else
-    eqb n 3 gives op_read else
-    eqb n 4 gives op_write else
-    eqb n 5 gives op_fetch else
-    eqb n 6 gives op_ack else op_other
+    if eqb n 0 then op_idle else
+    if eqb n 1 then op_send else
+    if eqb n 2 then op_reply else
+    if eqb n 3 then op_read else
+    if eqb n 4 then op_write else
+    if eqb n 5 then op_fetch else
+    if eqb n 6 then op_ack else op_other
 
 -- one command of a tile whose activity id is own, on a checked machine; sh are the sharing records and bs the bytes
 unfoldable pub step_of : Board → Table → List ℕ → List ℕ → ℕ → ℕ → Opcode → ℕ → Registers → Command
@@ -54,8 +53,8 @@ step_of b t sh bs own tile op_other ep a = true ⇒ UnknownCmd ▸ does [] nothi
 -- Privileged opcodes: idle 0, XCHG_ACT 4; others 15. XCHG_ACT hands back the old word of CUR_ACT and sets it from arg0's low 32 bits.
 unfoldable pub privileged_step : List ℕ → ℕ → ℕ → ℕ → ℕ → Command
 privileged_step sh tile op arg0 arg1 =
-    eqb op 0 gives does [] nothing arg1 else
-    eqb op 4 gives (does [] nothing (word_at sh tile 0) noting Exchanged (arg0 % 4294967296)) else
+    if eqb op 0 then does [] nothing arg1 else
+    if eqb op 4 then (does [] nothing (word_at sh tile 0) noting Exchanged (arg0 % 4294967296)) else
     true ⇒ UnknownCmd ▸ does [] nothing arg1
 
 -- ---- what the host gets
@@ -101,19 +100,19 @@ respond_of b ws sh bs tile =
     does [] nothing 0 noting Responded
 
 -- what is waiting at a tile
-unfoldable pub waits_of : Board → List ℕ → List ℕ → List ℕ → ℕ → Waits
-waits_of b ws sh bs tile = first (host_checks b ws sh bs tile) fails Waits.Refused else Waits.So (waiting_in sh tile)
+unfoldable pub waits_of : Board → List ℕ → List ℕ → List ℕ → ℕ → Result Waiting Error
+waits_of b ws sh bs tile = first (host_checks b ws sh bs tile) fails Err else Ok (waiting_in sh tile)
 
 -- ---- what a call leaves: the answer with ARG_1 and what was noted, the words, the sharing records and the bytes
 pub record Left : Type 0 where
-  pub completion : Completion
+  pub completion : Handed
   pub words : List ℕ
   pub sharing : List ℕ
   pub bytes : List ℕ
 
-unfoldable pub left : Completion → List ℕ → List ℕ → List ℕ → Left
+abbrev pub left : Handed → List ℕ → List ℕ → List ℕ → Left
 left r ws sh bs = record { completion = r; words = ws; sharing = sh; bytes = bs }
 
 -- a call of a tile, where the records were sh
-unfoldable pub left_by : List ℕ → ℕ → Outcome → Left
+abbrev pub left_by : List ℕ → ℕ → Outcome → Left
 left_by sh tile o = left o.completion o.words (noted sh tile o.completion.note) o.bytes

@@ -1,7 +1,7 @@
 -- Document 01, "Numbers on both sides": P1 to P10, all in a single table under one statement, of the definitions of this machine.
-use Rattle.std.specs.Prelude.{ℕ, List, ◌≡◌}
+use Rattle.std.specs.Prelude.{ℕ, List, ◌≡◌, Option, Some, None}
 use Rattle.answers.specs.Answers.{number_of}
-use Rattle.bits.specs.declared.Found.TheVariants.{At, Nothing}
+use Rattle.bits.specs.declared.Slot.{Slot}
 use Rattle.endpoint.specs.Kinds.{receive_of}
 use Rattle.endpoint.specs.Numbers.{p1_fields, P1}
 use Rattle.endpoint.specs.declared.ReceiveFields.{ReceiveFields}
@@ -35,16 +35,20 @@ fetching r = FETCH (everywhere r) 5 0 0
 abbrev pub answers : List Check → ℕ
 answers l = number_of (first l)
 
+-- a slot, and how many steps from wpos it lies
+abbrev pub at : ℕ → ℕ → Option Slot
+at i d = Some (record { index = i; distance = d })
+
 -- the free slot is given with its distance from wpos; the numbers 9, 22 and 12 are OUT_OF_BOUNDS, PAGE_BOUNDARY and INV_MSG_OFF
 pub record Numbers : Type 0 where
   -- the words of a send endpoint, both ways
   pub p1 : P1
   -- four slots, the free one for (occupied, wpos)
-  pub p2 : free_slot (four 0b1011 0 0 0) ≡ At 2 2
-  pub p3 : free_slot (four 0b0101 0 3 0) ≡ At 3 0
-  pub p4 : free_slot (four 0b1000 0 3 0) ≡ At 0 1
-  pub p5 : free_slot (four 0 0 4 0) ≡ At 0 0
-  pub p6 : free_slot (four 0b1111 0 1 0) ≡ Nothing
+  pub p2 : free_slot (four 0b1011 0 0 0) ≡ at 2 2
+  pub p3 : free_slot (four 0b0101 0 3 0) ≡ at 3 0
+  pub p4 : free_slot (four 0b1000 0 3 0) ≡ at 0 1
+  pub p5 : free_slot (four 0 0 4 0) ≡ at 0 0
+  pub p6 : free_slot (four 0b1111 0 1 0) ≡ None
   -- FETCH, unread 0101b, rpos 1: it answers 0, ARG_1 is 512, and rpos becomes 3
   pub p7 : (answers (fetching (four 0b0101 0b0101 0 1)).checks ≡ 0)
       × ((fetching (four 0b0101 0b0101 0 1)).effect.hands ≡ 512)

@@ -1,10 +1,12 @@
 -- The laws of `put` and `part`. Where a store has to lie within the list, a law says so; the others hold of any place. Assumes nothing.
 use mathlib.Core.Path.{◌≡◌, refl, sym, ap}
-use Prim.Native.Nat.{ℕ, zero, suc, ◌+◌, ◌≤◌, ◌<◌}
+use Prim.Native.Nat.{ℕ, zero, suc, ◌+◌, ◌-◌, ◌/◌, ◌%◌, ◌^◌, ◌≤◌, ◌<◌}
 use native.Mathlib.Omega.{arith}
 use mathlib.Core.List.{List, [], ◌∷◌, ◌++◌, append_assoc}
-use lib.ListN.{length, get_or, set, take, drop, length-drop}
-use lib.Seq.{take-add, drop-drop, get_or-take, get_or-drop, drop-cons, length-take-le}
+use lib.ListN.{length, get_or, take, drop, length-drop}
+use lib.Seq.{take-add, drop-drop, get_or-take, get_or-drop, length-take-le}
+use Rattle.std.specs.List.{copy_within}
+use Rattle.std.specs.Int.{w64, to_le_bytes}
 use Rattle.memory.specs.Bytes.{part, put, bytes, word, header}
 
 -- ---- lengths
@@ -161,62 +163,7 @@ get_or-put_in (x ∷ xs) zero (y ∷ ys) zero (suc j) d e h l = absurd (omega ar
 get_or-put_in (x ∷ xs) zero (y ∷ ys) (suc i) zero d e h l = absurd (omega arith)
 get_or-put_in (x ∷ xs) zero (y ∷ ys) (suc i) (suc j) d e h l = get_or-put_in xs zero ys i j d (omega arith) (omega arith) (omega arith)
 
--- a store of one element, and a part of one
-pub set_put : (xs : List ℕ) (a v : ℕ) → set xs a v ≡ put xs a (v ∷ [])
-unfolding put
-set_put [] a v = refl
-set_put (x ∷ xs) (suc a) v = ap (λ (l : List ℕ). x ∷ l) (set_put xs a v)
-set_put (x ∷ xs) zero v = ap (λ (l : List ℕ). v ∷ l) (sym (put_none xs zero))
-
-pub part_one : (xs : List ℕ) (a d : ℕ) → a < length xs → part xs a 1 ≡ get_or xs a d ∷ []
-unfolding part
-part_one xs a d h = rw (drop-cons xs a d)
-
-pub move_one : (xs : List ℕ) (from to d : ℕ) → from < length xs → set xs to (get_or xs from d) ≡ put xs to (part xs from 1)
-move_one xs from to d h = rw (part_one xs from d) (set_put xs to (get_or xs from d))
-
--- ---- a move in pieces: ys is xs with one piece moved, and the next piece is n elements
-
-pub move_none : (xs : List ℕ) (from to k : ℕ) → k ≡ 0 → xs ≡ put xs to (part xs from k)
-move_none xs from to k e = rw (e, part_none, put_none)
-
-module _ (xs ys : List ℕ) (from to from' to' i n k : ℕ) where
-  -- i are moved, and then n more after them
-  pub move_after : ys ≡ put xs to (part xs from i) → from' ≡ from + i → to' ≡ to + i → k ≡ i + n → to ≤ from → from + k ≤ length xs
-      → put ys to' (part ys from' n) ≡ put xs to (part xs from k)
-  move_after e f t l o h =
-      let m : length (part xs from i) ≡ i = length_part xs from i (omega arith) in
-      rw (e, part-put_after xs to (part xs from i) from' n (omega arith), l, f, part-part)
-      (put_after xs to to' (part xs from i) (part xs (from + i) n) (omega arith))
-
-  -- i are moved, and then the n before them
-  pub move_before : ys ≡ put xs to' (part xs from' i) → from' ≡ from + n → to' ≡ to + n → k ≡ n + i → from ≤ to → from + k ≤ length xs
-      → put ys to (part ys from n) ≡ put xs to (part xs from k)
-  move_before e f t l o h =
-      let m : length (part xs from n) ≡ n = length_part xs from n (omega arith) in
-      rw (e, part-put_before xs to' (part xs from' i) from n (omega arith), l, f, part-part)
-      (put_before xs to to' (part xs from n) (part xs (from + n) i) (omega arith))
-
 -- ---- words and messages
-
--- eight stores, one after another
-pub eight : (xs : List ℕ) (a b₀ b₁ b₂ b₃ b₄ b₅ b₆ b₇ : ℕ)
-    → set (set (set (set (set (set (set (set xs a b₀) (a + 1) b₁) (a + 2) b₂) (a + 3) b₃) (a + 4) b₄) (a + 5) b₅) (a + 6) b₆) (a + 7) b₇
-    ≡ put xs a (b₀ ∷ b₁ ∷ b₂ ∷ b₃ ∷ b₄ ∷ b₅ ∷ b₆ ∷ b₇ ∷ [])
-eight xs a b₀ b₁ b₂ b₃ b₄ b₅ b₆ b₇ =
-    rw (
-      set_put xs a b₀,
-      more (b₀ ∷ []) 1 b₁ refl,
-      more (b₀ ∷ b₁ ∷ []) 2 b₂ refl,
-      more (b₀ ∷ b₁ ∷ b₂ ∷ []) 3 b₃ refl,
-      more (b₀ ∷ b₁ ∷ b₂ ∷ b₃ ∷ []) 4 b₄ refl,
-      more (b₀ ∷ b₁ ∷ b₂ ∷ b₃ ∷ b₄ ∷ []) 5 b₅ refl,
-      more (b₀ ∷ b₁ ∷ b₂ ∷ b₃ ∷ b₄ ∷ b₅ ∷ []) 6 b₆ refl,
-      more (b₀ ∷ b₁ ∷ b₂ ∷ b₃ ∷ b₄ ∷ b₅ ∷ b₆ ∷ []) 7 b₇ refl,
-    )
-  where
-    more : (ys : List ℕ) (k v : ℕ) → length ys ≡ k → set (put xs a ys) (a + k) v ≡ put xs a (ys ++ (v ∷ []))
-    more ys k v e = rw (set_put (put xs a ys) (a + k) v) (put_after xs a (a + k) ys (v ∷ []) (omega arith))
 
 pub length-word : (v : ℕ) → length (word v) ≡ 8
 unfolding word bytes
@@ -238,3 +185,42 @@ message xs p to first rlabel label =
       put_before xs (to + 8) (to + 16) (word rlabel) (word label ++ (word 0 ++ p)) (omega (arith, length-word rlabel)),
       put_before xs to (to + 8) (word first) (word rlabel ++ (word label ++ (word 0 ++ p))) (omega (arith, length-word first)),
     ) (simp append_assoc)
+
+-- a store of no element
+pub put_empty : (xs : List ℕ) (a from n : ℕ) → n ≡ 0 → put xs a (part xs from n) ≡ xs
+put_empty xs a from n z = rw (z, part_none, put_none)
+
+-- ---- a store that lies within the list, by what is left before and after it
+put-splice : (xs : List ℕ) (a b : ℕ) (ys : List ℕ) → b ≡ a + length ys → b ≤ length xs → take a xs ++ (ys ++ drop b xs) ≡ put xs a ys
+unfolding put
+put-splice [] zero b [] e h = let z : b ≡ 0 = omega arith in rw z
+put-splice [] zero b (y ∷ ys) e h = absurd (omega arith)
+put-splice [] (suc a) b ys e h = absurd (omega arith)
+put-splice (x ∷ xs) (suc a) zero ys e h = absurd (omega arith)
+put-splice (x ∷ xs) (suc a) (suc b) ys e h = ap (λ (l : List ℕ). x ∷ l) (put-splice xs a b ys (omega arith) (omega arith))
+put-splice (x ∷ xs) zero b [] e h = let z : b ≡ 0 = omega arith in rw z
+put-splice (x ∷ xs) zero zero (y ∷ ys) e h = absurd (omega arith)
+put-splice (x ∷ xs) zero (suc b) (y ∷ ys) e h = ap (λ (l : List ℕ). y ∷ l) (put-splice xs zero b ys (omega arith) (omega arith))
+
+pub put_within : (xs : List ℕ) (from to n : ℕ) → from + n ≤ length xs → to + n ≤ length xs → copy_within xs from (from + n) to ≡ put xs to (part xs from n)
+unfolding part
+put_within xs from to n h k =
+    let e : from + n - from ≡ n = omega arith in
+    rw (e, append_assoc) (put-splice xs to (to + n) (take n (drop from xs)) (omega (arith, length_part xs from n h)) k)
+
+-- the eight bytes of a word, as the library takes them
+pub word_is : (v : ℕ) → to_le_bytes w64 v ≡ word v
+unfolding word bytes
+word_is v =
+    let b₁ : v / 256 ^ 1 % 256 ≡ v / 256 % 256 = omega arith in
+    let b₂ : v / 256 ^ 2 % 256 ≡ v / 256 / 256 % 256 = omega arith in
+    let b₃ : v / 256 ^ 3 % 256 ≡ v / 256 / 256 / 256 % 256 = omega arith in
+    let b₄ : v / 256 ^ 4 % 256 ≡ v / 256 / 256 / 256 / 256 % 256 = omega arith in
+    let b₅ : v / 256 ^ 5 % 256 ≡ v / 256 / 256 / 256 / 256 / 256 % 256 = omega arith in
+    let b₆ : v / 256 ^ 6 % 256 ≡ v / 256 / 256 / 256 / 256 / 256 / 256 % 256 = omega arith in
+    let b₇ : v / 256 ^ 7 % 256 ≡ v / 256 / 256 / 256 / 256 / 256 / 256 / 256 % 256 = omega arith in
+    rw (b₁, b₂, b₃, b₄, b₅, b₆, b₇)
+
+pub put_word : (xs : List ℕ) (a k v : ℕ) → k ≡ 8 → a + 8 ≤ length xs → take a xs ++ (word v ++ drop k (drop a xs)) ≡ put xs a (word v)
+unfolding word bytes
+put_word xs a k v e h = rw (drop-drop) (put-splice xs a _ (word v) (omega arith) (omega arith))

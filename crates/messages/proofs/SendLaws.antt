@@ -1,16 +1,16 @@
 -- What an accepted SEND is known to have before its delivery: each fact out of its list of checks, by its place. Assumes nothing.
 use Prim.Native.Nat.{ℕ, ◌<◌, ◌≤◌}
-use mathlib.Core.Bool.{Bool, true, false, not, ◌&&◌}
+use mathlib.Core.Bool.{Bool, true, false, not, cond, ◌&&◌}
 use mathlib.Core.List.{List}
 use mathlib.Core.Path.{◌≡◌, refl, sym, ◌∙◌}
 use native.Mathlib.Omega.{arith}
 use lib.Dec.{eqb}
 use borrow.Author.Tests.{eqb-true, eqb-false}
-use Rattle.numbers.specs.Choice.{◌gives◌else◌}
 use Rattle.numbers.specs.Tests.{All}
 use Rattle.numbers.proofs.SumLaws.{above_false}
-use Rattle.answers.specs.declared.Answer.{Answer}
-use Rattle.answers.specs.declared.Answer.TheVariants.{None}
+use Rattle.std.specs.Prelude.{Result, Ok}
+use Rattle.answers.specs.Answers.{Answer}
+use Rattle.answers.specs.declared.Error.{Error}
 use Rattle.board.specs.Board.{size_of, bytes_of}
 use Rattle.board.specs.declared.Board.{Board}
 use Rattle.endpoint.specs.Acceptable.{acceptable}
@@ -19,13 +19,11 @@ use Rattle.endpoint.specs.Layout.{fit}
 use Rattle.endpoint.specs.declared.Endpoint.{Endpoint}
 use Rattle.endpoint.specs.declared.Endpoint.TheVariants.{Invalid, Send, Receive, Memory}
 use Rattle.endpoint.specs.declared.SendFields.{SendFields}
-use Rattle.endpoint.specs.declared.ReceiveFields.{ReceiveFields}
 use Rattle.endpoint.proofs.EndpointLaws.{accepted}
 use Rattle.table.specs.Table.{endpoint_at, view}
 use Rattle.table.proofs.TableLaws.{live}
-use Rattle.command.specs.Checks.{first, ◌then◌}
+use Rattle.command.specs.Checks.{first}
 use Rattle.command.specs.Checked.{Checked}
-use Rattle.command.specs.Outcome.{written}
 use Rattle.command.specs.Local.{outside}
 use Rattle.command.specs.declared.Registers.{Registers}
 use Rattle.command.proofs.CheckFacts.{passed}
@@ -36,8 +34,7 @@ use Rattle.delivery.specs.Target.{target_of}
 use Rattle.delivery.specs.Stowing.{Stowed}
 use Rattle.delivery.specs.declared.Header.{Header}
 use Rattle.delivery.specs.declared.Target.{Target}
-use Rattle.delivery.specs.declared.Target.TheVariants.{To}
-use Rattle.messages.specs.Send.{last_checks, send_checks, sep_of, rsize_of, request, send_writes}
+use Rattle.messages.specs.Send.{send_checks, sep_of, rsize_of, request}
 use Rattle.messages.specs.Ready.{Sendable}
 use Rattle.messages.proofs.MessageLaws.{short, tile_small, stowable}
 
@@ -62,31 +59,17 @@ slot_size_small m (Receive r) h = (accepted m r h).sizes_hold.1.1.0
 slot_size_small m (Memory x) h = omega arith
 
 rsize_small : (b : Board) (ws : List ℕ) (tile : ℕ) (a : Registers) → Checked b ws tile → rsize_of (view ws) tile a ≤ 11
-unfolding rsize_of ◌gives◌else◌
+unfolding rsize_of
 rsize_small b ws tile a c = go (eqb a.arg0 65535)
   where
-    go : (x : Bool) → (x gives 5 else (receive_of (endpoint_at (view ws) tile a.arg0)).slot_size) ≤ 11
+    go : (x : Bool) → (cond x 5 ((receive_of (endpoint_at (view ws) tile a.arg0)).slot_size)) ≤ 11
     go true = omega arith
     go false = slot_size_small (size_of b tile) (endpoint_at (view ws) tile a.arg0) (read_acceptable b ws tile tile a.arg0 c c.there)
 
--- the same of the endpoint o that a call read
-pub rsize_of_receive : (o e : Endpoint) (r : ReceiveFields) → o ≡ e → o ≡ Receive r → r.slot_size ≡ (receive_of e).slot_size
-rsize_of_receive o e r q p = rw (← q, p)
-
-pub rsize_of_other : (o e : Endpoint) → o ≡ e → ((x : ReceiveFields) → o ≡ Receive x → ⊥) → 0 ≡ (receive_of e).slot_size
-unfolding no_receive
-rsize_of_other o e q k = rw (← q) (go o k)
-  where
-    go : (x : Endpoint) → ((f : ReceiveFields) → x ≡ Receive f → ⊥) → 0 ≡ (receive_of x).slot_size
-    go Invalid z = refl
-    go (Send s) z = refl
-    go (Receive r) z = absurd (z r refl)
-    go (Memory m) z = refl
-
 -- ---- the checks have passed
 pub sendable : (n : Answer) (b : Board) (ws : List ℕ) (own tile ep : ℕ) (s : SendFields) (a : Registers) (o : Endpoint) → Checked b ws tile
-    → n ≡ first (send_checks b (view ws) own tile s a) → n ≡ None → o ≡ endpoint_at (view ws) tile ep → o ≡ Send s → Sendable b (view ws) tile ep s a
-unfolding send_checks message_checks last_checks ◌then◌ outside
+    → n ≡ first (send_checks b (view ws) own tile s a) → n ≡ Ok tt → o ≡ endpoint_at (view ws) tile ep → o ≡ Send s → Sendable b (view ws) tile ep s a
+unfolding send_checks message_checks outside
 sendable n b ws own tile ep s a o c e h q p =
     let ok = passed (send_checks b (view ws) own tile s a) (sym e ∙ h) in
     let back = endpoint_at (view ws) tile a.arg0 in
@@ -101,10 +84,10 @@ sendable n b ws own tile ep s a o c e h q p =
 
 -- ---- the header fits its bits
 sep_small : (ep : ℕ) (s : SendFields) → ep < 64 → sep_of ep s < 65536
-unfolding sep_of ◌gives◌else◌
+unfolding sep_of
 sep_small ep s l = go (eqb s.cur_crd 63)
   where
-    go : (x : Bool) → (x gives 65535 else ep) < 65536
+    go : (x : Bool) → cond x 65535 ep < 65536
     go true = omega arith
     go false = omega arith
 
@@ -113,10 +96,6 @@ unfolding request
 request_fits b ws tile ep s a c z = omega (arith, tile_small b ws tile c, sep_small ep s z.from, z.rsize_small, z.short, z.rep_small)
 
 -- what storing the message asks
-pub stow_request : (b : Board) (ws sh : List ℕ) (n tile ep : ℕ) (s : SendFields) (a : Registers) (q : Target) (r : ReceiveFields) (i : ℕ) (h : Header) → Checked b ws tile → n ≡ bytes_of b
-    → Sendable b (view ws) tile ep s a → q ≡ target_of b (view ws) sh s a → q ≡ To r i → h ≡ request (view ws) tile ep s a → Stowed b n tile a s r i h
-stow_request b ws sh n tile ep s a q r i h c l z e p k = stowable b ws sh tile s a q r i c e p h n l z.local_in (rw k (request_fits b ws tile ep s a c z))
-
--- the writes of a message whose header a call made
-pub sent_as : (us ws : List ℕ) (tile ep : ℕ) (s : SendFields) (r : ReceiveFields) (i : ℕ) (h k : Header) → h ≡ k → us ≡ written ws (send_writes tile ep s r i h) → us ≡ written ws (send_writes tile ep s r i k)
-sent_as us ws tile ep s r i h k e x = rw (← e) x
+pub stow_request : (b : Board) (ws sh : List ℕ) (n tile ep : ℕ) (s : SendFields) (a : Registers) (q : Result Target Error) (t : Target) (h : Header) → Checked b ws tile → n ≡ bytes_of b
+    → Sendable b (view ws) tile ep s a → q ≡ target_of b (view ws) sh s a → q ≡ Ok t → h ≡ request (view ws) tile ep s a → Stowed b n tile a s t.receiver t.slot h
+stow_request b ws sh n tile ep s a q t h c l z e p k = stowable b ws sh tile s a q t c e p h n l z.local_in (rw k (request_fits b ws tile ep s a c z))

@@ -4,8 +4,7 @@
 -- the start, with idx cleared in both masks, is written back. A reply that came into the same endpoint is thereby lost, as printed.
 -- With T-01 the delivery is counted or queued first, the lost one too; then a slot that was unread takes one from the count.
 -- Mind: 8 and 17 come before 4.
-use Rattle.std.specs.Prelude.{ℕ, ◌+◌, Bool, true, false, not, ◌&&◌, List, [], ◌∷◌, eqb, leb}
-use Rattle.numbers.specs.Choice.{◌gives◌else◌}
+use Rattle.std.specs.Prelude.{ℕ, ◌+◌, Bool, true, not, ◌&&◌, List, [], ◌∷◌, eqb, leb}
 use Rattle.answers.specs.declared.Error.TheVariants.{NoRep, RepliesDisabled, RecvInvRplEps, ForeignEp, InvMsgOff, NoSep, SendReplyEp, SendInvCrdEp, Abort}
 use Rattle.board.specs.declared.Board.{Board}
 use Rattle.bits.specs.Bits.{has_bit}
@@ -37,7 +36,7 @@ from_checks own g a =
 
 -- crd_ep is neither 65535 nor below 64
 unfoldable pub credit_bad : SendFields → Bool
-credit_bad s = eqb s.crd_ep 65535 gives false else leb 64 s.crd_ep
+credit_bad s = not (eqb s.crd_ep 65535) && leb 64 s.crd_ep
 
 -- the checks of the reply endpoint s, in order, up to the delivery
 unfoldable pub reply_checks : Board → ℕ → SendFields → Registers → List Check

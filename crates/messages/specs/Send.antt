@@ -3,8 +3,7 @@
 -- is 63, the record read at the start is written back with cur_crd one lower.
 -- The message that came is noted at the receiver's tile.
 -- Mind: the local range is checked for size 0 too; a refused SEND takes no credit.
-use Rattle.std.specs.Prelude.{ℕ, ◌+◌, true, false, not, ◌&&◌, List, [], ◌∷◌, eqb}
-use Rattle.numbers.specs.Choice.{◌gives◌else◌}
+use Rattle.std.specs.Prelude.{ℕ, ◌+◌, Bool, true, false, not, ◌&&◌, List, [], ◌∷◌, eqb, if◌then◌else◌}
 use Rattle.answers.specs.declared.Error.TheVariants.{NoSep, SendReplyEp, ForeignEp, NoRep, Abort, NoCredits}
 use Rattle.board.specs.declared.Board.{Board}
 use Rattle.endpoint.specs.Kinds.{is_receive, receive_of}
@@ -21,29 +20,28 @@ use Rattle.command.specs.declared.Registers.{Registers}
 use Rattle.delivery.specs.Delivery.{message_checks, delivered, arrival, arrival_of, message_to}
 use Rattle.delivery.specs.declared.Header.{Header}
 
--- the payload lies in memory, and a credit is left
-unfoldable pub last_checks : Board → ℕ → SendFields → Registers → List Check
-last_checks b tile s a =
-    outside b tile a ⇒ Abort
-    ∷ eqb s.cur_crd 0 ⇒ NoCredits
-    ∷ []
+-- a reply is wanted at an endpoint that is no receive endpoint
+abbrev pub reply_lost : Table → ℕ → ℕ → Bool
+reply_lost t tile ep = not (eqb ep 65535) && not (is_receive (endpoint_at t tile ep))
 
--- the checks of the send endpoint s, in order, up to the delivery
+-- the checks of the send endpoint s, in order
 unfoldable pub send_checks : Board → Table → ℕ → ℕ → SendFields → Registers → List Check
 send_checks b t own tile s a =
     s.reply ⇒ SendReplyEp
     ∷ not (eqb s.act own) ⇒ ForeignEp
     ∷ (message_checks s a then
-    (not (eqb a.arg0 65535) && not (is_receive (endpoint_at t tile a.arg0))) ⇒ NoRep
-    ∷ last_checks b tile s a)
+    reply_lost t tile a.arg0 ⇒ NoRep
+    ∷ outside b tile a ⇒ Abort
+    ∷ eqb s.cur_crd 0 ⇒ NoCredits
+    ∷ [])
 
 -- sep is the endpoint, or 65535 when cur_crd is 63, which means unlimited
 unfoldable pub sep_of : ℕ → SendFields → ℕ
-sep_of ep s = eqb s.cur_crd 63 gives 65535 else ep
+sep_of ep s = if eqb s.cur_crd 63 then 65535 else ep
 
 -- rsize is the slot_size of the endpoint that arg0 names, 5 if none
 unfoldable pub rsize_of : Table → ℕ → Registers → ℕ
-rsize_of t tile a = eqb a.arg0 65535 gives 5 else (receive_of (endpoint_at t tile a.arg0)).slot_size
+rsize_of t tile a = if eqb a.arg0 65535 then 5 else (receive_of (endpoint_at t tile a.arg0)).slot_size
 
 unfoldable pub request : Table → ℕ → ℕ → SendFields → Registers → Header
 request t tile ep s a =

@@ -9,6 +9,7 @@ ghost use Rattle.output.specs.Columns.{hex_text};
 
 use std::io::{self, Write};
 
+// These stand over the writer's methods for their clauses, which say which bytes are appended; tests and an edit speak of them.
 // Hands on what the writer still holds back.
 pub fn flush<W: Write>(out: &mut W) -> io::Result<()>
     ensures { OnOk result (Keeps (W.contents out.old) (W.contents out.new)) }
@@ -38,19 +39,13 @@ pub fn blanks<W: Write>(out: &mut W, k: usize) -> io::Result<()>
     Ok(())
 }
 
-fn missing(width: usize, k: usize) -> usize
-    ensures { result ≡ width - k }
-{
-    width.saturating_sub(k)
-}
-
 // `t`, with blanks after it up to `width`.
 pub fn left<W: Write>(out: &mut W, t: &[u8], width: usize) -> io::Result<()>
     ensures { OnOk result (Appends (W.contents out.old) (W.contents out.new)
         (t.now ++ replicate (width - length t.now) 32)) }
 {
     text(out, t)?;
-    blanks(out, missing(width, t.len()))
+    blanks(out, width.saturating_sub(t.len()))
 }
 
 // `t`, with blanks before it up to `width`.
@@ -58,11 +53,12 @@ pub fn right<W: Write>(out: &mut W, t: &[u8], width: usize) -> io::Result<()>
     ensures { OnOk result (Appends (W.contents out.old) (W.contents out.new)
         (replicate (width - length t.now) 32 ++ t.now)) }
 {
-    blanks(out, missing(width, t.len()))?;
+    blanks(out, width.saturating_sub(t.len()))?;
     text(out, t)
 }
 
 // A number in decimal, with blanks before it up to `width`.
+#[tactic(auto, using(crate::proofs::Padding::right_aligned_decimal))]
 pub fn decimal<W: Write>(out: &mut W, v: u64, width: usize) -> io::Result<()>
     ensures { OnOk result (Appends (W.contents out.old) (W.contents out.new)
         (replicate (width - length (decimal_text v)) 32 ++ decimal_text v)) }
@@ -71,6 +67,7 @@ pub fn decimal<W: Write>(out: &mut W, v: u64, width: usize) -> io::Result<()>
 }
 
 // A number in hexadecimal, of `digits` digits at least: zeros stand before it.
+#[tactic(auto, using(crate::proofs::Padding::zero_padded))]
 pub fn hex<W: Write>(out: &mut W, v: u64, digits: usize) -> io::Result<()>
     ensures { OnOk result (Appends (W.contents out.old) (W.contents out.new)
         (replicate (digits - length (hex_text v)) 48 ++ hex_text v)) }

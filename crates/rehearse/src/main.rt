@@ -2,160 +2,61 @@
 // mistake. The arguments are an option, --sheet or --drawing, and a file; with no file, or -, it reads standard input.
 #![tactic(auto)]
 
-use checking::Checked;
-use input::Input;
+use input::InputError;
 use running::Mode;
+use statements::System;
+use std::alloc::Global;
 use std::env::FillError;
-use std::io::{self, BufWriter, Write};
+use std::io::{self, BufWriter, Read, Write};
 use std::rt::Runtime;
 
-// Runs a checked script, or says that nothing was run. What the machine is lent is cut to the board's sizes here, once; the
-// arrays of `start` are as long as the largest board asks, so none of the three tests of their lengths ever holds.
-fn second<W: Write>(
-    s: &[u8],
-    mode: Mode,
-    c: Checked,
-    out: &mut W,
-    words: &mut [u64],
-    sharing: &mut [u64],
-    mem: &mut [u8],
-    values: &mut [u64; 40],
-    given: &mut [bool; 29],
-) -> io::Result<()> {
-    if c.mistakes > 0 {
-        return mistakes::count(out, c.mistakes);
+// A script has no more bytes than this.
+const LONGEST: usize = 1048576;
+
+// An argument has no more bytes than this.
+const ARGUMENT: usize = 4096;
+
+// Checks a script, and runs it where it has no mistake.
+fn rehearse<W: Write>(alloc: Global, source: &[u8], mode: Mode, out: &mut W) -> io::Result<()> {
+    let checked = checking::check(source, out)?;
+    match checked.board() {
+        Some(board) => {
+            let system = System::new(alloc, board)?;
+            running::run(alloc, source, mode, system, out)
+        }
+        None => mistakes::count(out, checked.mistakes),
     }
-    let b = c.board();
-    let tiles = (b.tiles % 9) as usize;
-    let bytes = contents::bytes_of(b);
-    if words.len() < tiles * 192 {
-        return Ok(());
-    }
-    if sharing.len() < tiles * 67 {
-        return Ok(());
-    }
-    if mem.len() < bytes {
-        return Ok(());
-    }
-    running::run(
-        s,
-        mode,
-        b,
-        out,
-        &mut words[0..tiles * 192],
-        &mut sharing[0..tiles * 67],
-        &mut mem[0..bytes],
-        values,
-        given,
-    )
 }
 
-// The rehearsal of a script of which `size` bytes were read.
-fn rehearse<W: Write>(
-    all: &[u8],
-    size: usize,
+// The rehearsal of the script that a reader gives.
+fn start<R: Read, W: Write>(
+    alloc: Global,
+    from: &mut R,
     mode: Mode,
     out: &mut W,
-    words: &mut [u64],
-    sharing: &mut [u64],
-    mem: &mut [u8],
-    values: &mut [u64; 40],
-    given: &mut [bool; 29],
 ) -> io::Result<()> {
-    if all.len() < size {
-        return Ok(());
-    }
-    let s = &all[0..size];
-    let c = checking::check(s, out, values, given)?;
-    second(s, mode, c, out, words, sharing, mem, values, given)
-}
-
-fn go<W: Write>(
-    read: Input,
-    mode: Mode,
-    all: &[u8],
-    out: &mut W,
-    words: &mut [u64; 1536],
-    sharing: &mut [u64; 536],
-    mem: &mut [u8],
-    values: &mut [u64; 40],
-    given: &mut [bool; 29],
-) -> io::Result<()> {
-    match read {
-        Input::Got(n) => rehearse(all, n, mode, out, words, sharing, mem, values, given),
-        Input::TooLong => output::text(
+    let mut source = vec![in alloc; 0u8; LONGEST]?;
+    match input::read_all(from, &mut source) {
+        Ok(size) => rehearse(alloc, &source[..size], mode, out),
+        Err(InputError::TooLong) => writeln!(
             out,
-            b"the script is longer than 1048576 bytes; nothing was run\n",
+            "the script is longer than {LONGEST} bytes; nothing was run"
         ),
-        Input::Failed => output::text(out, b"the script cannot be read; nothing was run\n"),
+        Err(InputError::Failed) => { writeln!(out, "the script cannot be read; nothing was run") }
     }
-}
-
-// Reads the file or, where there is none, standard input.
-fn read<T: Runtime>(rt: &T, file: Option<T::File>, all: &mut [u8]) -> Input {
-    match file {
-        Some(file) => {
-            let mut from = file;
-            input::read_all(&mut from, all)
-        }
-        None => input::read_all(&mut rt.reader(), all),
-    }
-}
-
-// Makes all that the rehearsal works on, and lends it.
-fn start<T: Runtime, W: Write>(
-    rt: &T,
-    file: Option<T::File>,
-    mode: Mode,
-    out: &mut W,
-) -> io::Result<()> {
-    let mut all = [0u8; 1048576];
-    let mut words = [0u64; 1536];
-    let mut sharing = [0u64; 536];
-    let mut mem = [0u8; 524288];
-    let mut values = [0u64; 40];
-    let mut given = [false; 29];
-    let read = read(rt, file, all.as_mut_slice());
-    go(
-        read,
-        mode,
-        &all,
-        out,
-        &mut words,
-        &mut sharing,
-        mem.as_mut_slice(),
-        &mut values,
-        &mut given,
-    )
-}
-
-fn same(a: &[u8], b: &[u8]) -> bool {
-    if a.len() != b.len() {
-        return false;
-    }
-    let mut i: usize = 0;
-    while i < a.len() {
-        if a[i] != b[i] {
-            return false;
-        }
-        i = i + 1;
-    }
-    true
 }
 
 fn mode_of(word: &[u8]) -> Mode {
-    if same(word, b"--sheet") {
-        return Mode::Sheet;
+    match word {
+        b"--sheet" => Mode::Sheet,
+        b"--drawing" => Mode::Drawing,
+        _ => Mode::Whole,
     }
-    if same(word, b"--drawing") {
-        return Mode::Drawing;
-    }
-    Mode::Whole
 }
 
 // The option that the first argument is; a missing argument is none.
 fn option<T: Runtime>(rt: &T) -> Mode {
-    let mut word = [0u8; 4096];
+    let mut word = [0u8; ARGUMENT];
     match rt.arg(1, &mut word) {
         Ok(n) => mode_of(&word[..n]),
         Err(_) => Mode::Whole,
@@ -163,20 +64,28 @@ fn option<T: Runtime>(rt: &T) -> Mode {
 }
 
 fn cannot_open<W: Write>(path: &[u8], out: &mut W) -> io::Result<()> {
-    output::text(out, path)?;
-    output::text(out, b": cannot be opened; nothing was run\n")
+    out.write_all(path)?;
+    writeln!(out, ": cannot be opened; nothing was run")
 }
 
 // Rehearses the file of this name. Files are opened by names in UTF-8; one of another name cannot be.
-fn named<T: Runtime, W: Write>(rt: &T, path: &[u8], mode: Mode, out: &mut W) -> io::Result<()> {
-    if same(path, b"-") {
-        return start(rt, None, mode, out);
+fn named<T: Runtime + AllocGlobal, W: Write>(
+    rt: &T,
+    path: &[u8],
+    mode: Mode,
+    out: &mut W,
+) -> io::Result<()> {
+    if matches!(path, b"-") {
+        return start(rt.alloc(), &mut rt.reader(), mode, out);
     }
     let Ok(name) = str::from_utf8(path) else {
         return cannot_open(path, out);
     };
     match std::fs::open(rt, name) {
-        Ok(file) => start(rt, Some(file), mode, out),
+        Ok(file) => {
+            let mut from = file;
+            start(rt.alloc(), &mut from, mode, out)
+        }
         Err(_) => cannot_open(path, out),
     }
 }
@@ -186,20 +95,22 @@ fn is_given<T: Runtime>(rt: &T, i: usize) -> bool {
     !matches!(rt.arg(i, &mut [0u8; 1]), Err(FillError::NotPresent))
 }
 
-// Rehearses the file that argument `i` names.
-fn rest<T: Runtime, W: Write>(rt: &T, i: usize, mode: Mode, out: &mut W) -> io::Result<()> {
-    let mut path = [0u8; 4096];
+// Rehearses the file that argument `i` names. It is taken as bytes into a buffer, since `env::args` has names in UTF-8 alone, and
+// one that is not is told as it is.
+fn rest<T: Runtime + AllocGlobal, W: Write>(
+    rt: &T,
+    i: usize,
+    mode: Mode,
+    out: &mut W,
+) -> io::Result<()> {
+    let mut path = [0u8; ARGUMENT];
     match rt.arg(i, &mut path) {
-        Err(FillError::NotPresent) => start(rt, None, mode, out),
-        Err(FillError::TooLong) => {
-            output::text(out, b"the file's name is too long; nothing was run\n")
+        Err(FillError::NotPresent) => start(rt.alloc(), &mut rt.reader(), mode, out),
+        Err(FillError::TooLong) => { writeln!(out, "the file's name is too long; nothing was run") }
+        Ok(_) if is_given(rt, i.saturating_add(1)) => {
+            writeln!(out, "more than one file was named; nothing was run")
         }
-        Ok(n) => {
-            if is_given(rt, i.saturating_add(1)) {
-                return output::text(out, b"more than one file was named; nothing was run\n");
-            }
-            named(rt, &path[..n], mode, out)
-        }
+        Ok(n) => named(rt, &path[..n], mode, out),
     }
 }
 
@@ -207,8 +118,7 @@ fn main(rt: HostRuntime) -> io::Result<()> {
     let mut out = BufWriter::with_capacity(rt.alloc(), 65536, io::writer(&rt))?;
     match option(&rt) {
         Mode::Whole => rest(&rt, 1, Mode::Whole, &mut out)?,
-        Mode::Sheet => rest(&rt, 2, Mode::Sheet, &mut out)?,
-        Mode::Drawing => rest(&rt, 2, Mode::Drawing, &mut out)?,
+        mode => rest(&rt, 2, mode, &mut out)?,
     }
-    output::flush(&mut out)
+    out.flush()
 }

@@ -1,23 +1,21 @@
 // The lines that a run prints, in columns.
 #![tactic(auto)]
 
-use language::written::{name, padded};
-use language::{names, shapes};
+use language::{Named, Outcome};
+use script::Statement;
+use std::alloc::{AllocError, Global};
+use std::fmt::{self, Formatter};
 use std::io::{self, Write};
 
-// A label has fewer bytes than this.
-const LABEL: usize = 64;
-
-// What a statement answered: its number, where the answer has one; its name's row; and ARG_1, where it is a command.
+// What a statement answered, and ARG_1 afterwards, where it is a command.
 #[derive(Clone, Copy)]
 pub struct Answered {
-    pub number: u64,
-    pub row: usize,
-    pub arg1: u64,
+    pub outcome: Outcome,
+    pub arg1: Option<u64>,
 }
 
 // What is counted for the last line.
-#[derive(Clone, Copy)]
+#[derive(Clone, Copy, Default)]
 pub struct Tally {
     pub commands: u64,
     pub refusals: u64,
@@ -25,143 +23,187 @@ pub struct Tally {
     pub failed: u64,
 }
 
+impl Answered {
+    // Is this what was expected? ARG_1 may be left open.
+    pub fn meets(self, expected: Answered) -> bool {
+        self.outcome == expected.outcome && (expected.arg1.is_none() || expected.arg1 == self.arg1)
+    }
+}
+
+impl Tally {
+    // Every answer but NONE, yes and no is a refusal.
+    pub fn count(&mut self, answered: Answered) {
+        if answered.arg1.is_some() {
+            self.commands = self.commands.saturating_add(1);
+        }
+        if let Outcome::Refused(_) = answered.outcome {
+            self.refusals = self.refusals.saturating_add(1);
+        }
+    }
+
+    pub fn expect(&mut self, met: bool) {
+        self.expectations = self.expectations.saturating_add(1);
+        if !met {
+            self.failed = self.failed.saturating_add(1);
+        }
+    }
+}
+
+// So many of something that has a plural in s.
+#[derive(Clone, Copy)]
+struct Counted(u64, &'static str);
+
+impl fmt::Display for Counted {
+    fn fmt<W: fmt::Write>(&self, f: &mut Formatter<W>) -> fmt::Result {
+        let Counted(count, what) = *self;
+        match count {
+            1 => write!(f, "1 {what}"),
+            _ => write!(f, "{count} {what}s"),
+        }
+    }
+}
+
 pub fn header<W: Write>(out: &mut W) -> io::Result<()> {
-    output::text(
+    writeln!(
         out,
-        b" line  tile  statement            no  answer              ARG_1\n",
+        " line  tile  statement            no  answer              ARG_1"
     )
 }
 
-// NAME ENDPOINT KIND, as much of it as the statement has, put together in a text of its own so that it can be filled up.
-fn label<W: Write>(text: &mut W, form: usize, v: &[u64; 40]) -> io::Result<()> {
-    if form < names::KINDS {
-        name(text, form)?;
-        if shapes::operand(form, 0) != b'e' {
-            return Ok(());
+// NAME ENDPOINT KIND, as much of it as a statement that answers has.
+fn label(alloc: Global, statement: &Statement<'_>) -> Result<String, AllocError> {
+    match statement {
+        Statement::Endpoint { at, given } => {
+            let (endpoint, kind) = (at.endpoint, given.kind().name());
+            format!(in alloc; "endpoint {endpoint} {kind}")
         }
-        output::byte(text, b' ')?;
-        return output::decimal(text, v[shapes::PLACE], 0);
+        Statement::Invalidate(at) => {
+            let endpoint = at.endpoint;
+            format!(in alloc; "invalidate {endpoint}")
+        }
+        Statement::Command { keyword, at, .. } => {
+            let (name, endpoint) = (keyword.name(), at.endpoint);
+            format!(in alloc; "{name} {endpoint}")
+        }
+        Statement::Privileged { keyword, .. } => String::from_str(alloc, keyword.name()),
+        Statement::Respond { .. } => String::from_str(alloc, "respond"),
+        _ => String::from_str(alloc, "wiring"),
     }
-    name(text, names::ENDPOINT)?;
-    output::byte(text, b' ')?;
-    output::decimal(text, v[shapes::PLACE], 0)?;
-    output::byte(text, b' ')?;
-    name(text, form)
 }
 
-// expect NAME
-fn expect_label<W: Write>(text: &mut W, v: &[u64; 40]) -> io::Result<()> {
-    output::text(text, b"expect ")?;
-    name(text, v[shapes::ANSWER] as usize)
-}
-
-// How many bytes of such a text are taken, where so much of it is free.
-fn taken(free: &[u8]) -> usize {
-    LABEL.saturating_sub(free.len())
-}
-
-// The first `n` bytes of a text, in the statement's column.
-fn in_column<W: Write>(out: &mut W, text: &[u8], n: usize) -> io::Result<()> {
-    if n <= text.len() {
-        output::left(out, &text[0..n], 19)?;
-        return output::byte(out, b' ');
+// The tile that a statement which answers is about; the wiring is about none.
+fn tile_of(statement: &Statement<'_>) -> Option<u64> {
+    match statement {
+        Statement::Endpoint { at, .. } => Some(at.tile),
+        Statement::Invalidate(at) => Some(at.tile),
+        Statement::Command { at, .. } => Some(at.tile),
+        Statement::Privileged { tile, .. } => Some(*tile),
+        Statement::Respond { tile } => Some(*tile),
+        _ => None,
     }
-    Ok(())
 }
 
-fn label_in_column<W: Write>(out: &mut W, text: &[u8; LABEL], n: usize) -> io::Result<()> {
-    in_column(out, text, n)
-}
-
-fn tile<W: Write>(out: &mut W, form: usize, v: &[u64; 40]) -> io::Result<()> {
-    if form == names::WIRING || form == names::EXPECT {
-        return output::right(out, b"-", 6);
+// The line's number, the tile and the statement.
+fn place<W: Write>(out: &mut W, line: u64, tile: Option<u64>, label: &str) -> io::Result<()> {
+    match tile {
+        Some(tile) => write!(out, "{line:>5}  {tile:>4}  {label:<19} "),
+        None => write!(out, "{line:>5}     -  {label:<19} "),
     }
-    output::text(out, b"  ")?;
-    output::decimal(out, v[shapes::OF_TILE], 4)
 }
 
-fn number<W: Write>(out: &mut W, a: Answered) -> io::Result<()> {
-    if names::YES <= a.row {
-        return output::right(out, b"-", 3);
-    }
-    output::decimal(out, a.number, 3)
-}
-
-// The name of an answer, and ARG_1 after a command's.
-fn answer<W: Write>(out: &mut W, form: usize, a: Answered) -> io::Result<()> {
-    if shapes::answers(form) == b'c' {
-        padded(out, a.row)?;
-        output::text(out, b"  ")?;
-        return output::decimal(out, a.arg1, 0);
-    }
-    name(out, a.row)
-}
-
-// What a statement answered.
+// What a statement answered: the answer's number, where it has one, and its name.
 pub fn answer_line<W: Write>(
     out: &mut W,
+    alloc: Global,
     line: u64,
-    form: usize,
-    v: &[u64; 40],
-    a: Answered,
+    statement: &Statement<'_>,
+    answered: Answered,
 ) -> io::Result<()> {
-    let mut text = [0u8; LABEL];
-    let mut free = text.as_mut_slice();
-    label(&mut free, form, v)?;
-    let n = taken(free);
-    output::decimal(out, line, 5)?;
-    tile(out, form, v)?;
-    output::text(out, b"  ")?;
-    label_in_column(out, &text, n)?;
-    number(out, a)?;
-    output::text(out, b"  ")?;
-    answer(out, form, a)?;
-    output::byte(out, b'\n')
-}
-
-// What was answered, where something else was expected.
-fn instead<W: Write>(out: &mut W, v: &[u64; 40], a: Answered) -> io::Result<()> {
-    if v[shapes::ANSWER] != a.row as u64 {
-        output::text(out, b"failed: the answer was ")?;
-        return name(out, a.row);
+    let label = label(alloc, statement)?;
+    place(out, line, tile_of(statement), label.as_str())?;
+    match answered.outcome.number() {
+        Some(number) => write!(out, "{number:>3}  ")?,
+        None => write!(out, "  -  ")?,
     }
-    output::text(out, b"failed: ARG_1 was ")?;
-    output::decimal(out, a.arg1, 0)?;
-    output::text(out, b", not ")?;
-    output::decimal(out, v[shapes::ARG1], 0)
-}
-
-// A failed expectation.
-pub fn failed_line<W: Write>(out: &mut W, line: u64, v: &[u64; 40], a: Answered) -> io::Result<()> {
-    let mut text = [0u8; LABEL];
-    let mut free = text.as_mut_slice();
-    expect_label(&mut free, v)?;
-    let n = taken(free);
-    output::decimal(out, line, 5)?;
-    output::right(out, b"-", 6)?;
-    output::text(out, b"  ")?;
-    label_in_column(out, &text, n)?;
-    output::text(out, b"  -  ")?;
-    instead(out, v, a)?;
-    output::byte(out, b'\n')
-}
-
-// COUNT WHAT, with an s where they are not one.
-fn counted<W: Write>(out: &mut W, count: u64, what: &[u8]) -> io::Result<()> {
-    output::decimal(out, count, 0)?;
-    output::text(out, what)?;
-    if count == 1 {
-        return output::text(out, b", ");
+    let name = answered.outcome.name();
+    match answered.arg1 {
+        Some(arg1) => writeln!(out, "{name:<18}  {arg1}"),
+        None => writeln!(out, "{name}"),
     }
-    output::text(out, b"s, ")
+}
+
+// A failed expectation: what was expected, and what was answered instead.
+pub fn failed_line<W: Write>(
+    out: &mut W,
+    alloc: Global,
+    line: u64,
+    expected: Answered,
+    answered: Answered,
+) -> io::Result<()> {
+    let name = expected.outcome.name();
+    let label = format!(in alloc; "expect {name}")?;
+    place(out, line, None, label.as_str())?;
+    if answered.outcome != expected.outcome {
+        let name = answered.outcome.name();
+        return writeln!(out, "  -  failed: the answer was {name}");
+    }
+    let (arg1, not) = (answered.arg1.unwrap_or(0), expected.arg1.unwrap_or(0));
+    writeln!(out, "  -  failed: ARG_1 was {arg1}, not {not}")
 }
 
 // The last line.
-pub fn last_line<W: Write>(out: &mut W, t: Tally) -> io::Result<()> {
-    counted(out, t.commands, b" command")?;
-    counted(out, t.refusals, b" refusal")?;
-    counted(out, t.expectations, b" expectation")?;
-    output::decimal(out, t.failed, 0)?;
-    output::text(out, b" failed\n")
+pub fn last_line<W: Write>(out: &mut W, tally: Tally) -> io::Result<()> {
+    let commands = Counted(tally.commands, "command");
+    let refusals = Counted(tally.refusals, "refusal");
+    let expectations = Counted(tally.expectations, "expectation");
+    let failed = tally.failed;
+    writeln!(
+        out,
+        "{commands}, {refusals}, {expectations}, {failed} failed"
+    )
+}
+
+#[cfg(test)]
+mod tests {
+    use super::*;
+    use language::{Keyword, Opcode};
+    use script::Place;
+    use std::test::Fail;
+
+    #[test]
+    fn lines(rt: HostRuntime) -> Result<(), Fail> {
+        let alloc = rt.alloc();
+        let mut out: Vec<u8> = Vec::new(alloc);
+        let registers = command::Registers {
+            arg0: 0,
+            addr: 0,
+            size: 0,
+            arg1: 0,
+        };
+        let statement = Statement::Command {
+            keyword: Keyword::Named(Opcode::Send),
+            at: Place {
+                tile: 0,
+                endpoint: 4,
+            },
+            opcode: 1,
+            registers,
+        };
+        let expected = Answered {
+            outcome: Outcome::Done,
+            arg1: Some(78),
+        };
+        let answered = Answered {
+            outcome: Outcome::Done,
+            arg1: Some(77),
+        };
+        answer_line(&mut out, alloc, 12, &statement, answered)?;
+        let line = "   12     0  SEND 4                0  NONE                77\n";
+        assert_eq!(rt; out.as_slice(), line.as_bytes());
+        out.clear();
+        failed_line(&mut out, alloc, 13, expected, answered)?;
+        let line = "   13     -  expect NONE           -  failed: ARG_1 was 77, not 78\n";
+        assert_eq!(rt; out.as_slice(), line.as_bytes());
+        Ok(())
+    }
 }

@@ -1,240 +1,139 @@
 // The second pass: each line is read again, and its statement is run.
 #![tactic(auto)]
 
-mod state;
-mod waits;
-
-use board::Board;
-use language::{names, shapes};
-use lexer::lines;
-use report::Answered;
-use script::Line;
-use state::State;
-use statements::endpoints;
+use report::{Answered, Tally};
+use script::{Context, Statement};
+use statements::System;
+use std::alloc::Global;
 use std::io::{self, Write};
 
 // What is printed: a line for each answer and what the statements print, or the sheet or the drawing at the end alone.
-#[derive(Clone, Copy)]
+#[derive(Clone, Copy, Debug, PartialEq, Eq)]
 pub enum Mode {
     Whole,
     Sheet,
     Drawing,
 }
 
-fn is_whole(mode: Mode) -> bool {
-    match mode {
-        Mode::Whole => true,
-        _ => false,
-    }
-}
-
-// A statement that answers.
-fn answering<W: Write>(
-    s: State,
-    form: usize,
-    v: &[u64; 40],
-    b: Board,
-    out: &mut W,
-    words: &mut [u64],
-    sharing: &mut [u64],
-    mem: &mut [u8],
-) -> io::Result<State> {
-    let a = statements::carry_out(form, v, b, words, sharing, mem);
-    let t = s.answered(form, a);
-    if s.whole {
-        report::answer_line(out, s.line, form, v, a)?;
-    }
-    Ok(t)
-}
-
-// An expectation of the last answer.
-fn expecting<W: Write>(
-    s: State,
-    v: &[u64; 40],
-    given: &[bool; 29],
-    out: &mut W,
-) -> io::Result<State> {
-    let same_row = v[shapes::ANSWER] == s.row as u64;
-    let same_arg1 = !given[shapes::ARG1] | (v[shapes::ARG1] == s.arg1);
-    let met = same_row & same_arg1;
-    let t = s.expected(met);
-    if met | !s.whole {
-        return Ok(t);
-    }
-    let a = Answered {
-        number: 0,
-        row: s.row,
-        arg1: s.arg1,
-    };
-    report::failed_line(out, s.line, v, a)?;
-    Ok(t)
-}
-
-// The open channels, with the activity that runs on each tile.
-fn sheet_of<W: Write>(out: &mut W, b: Board, words: &[u64], sharing: &[u64]) -> io::Result<()> {
-    let ids = statements::activities(sharing);
-    let n = (b.tiles % 9) as usize;
-    sheet::sheet(out, b, words, &ids[0..n])
-}
-
-fn drawing_of<W: Write>(out: &mut W, b: Board, words: &[u64], sharing: &[u64]) -> io::Result<()> {
-    let ids = statements::activities(sharing);
-    let n = (b.tiles % 9) as usize;
-    sheet::drawing(out, b, words, &ids[0..n])
-}
-
-// What a statement prints that has no answer.
-fn printed<W: Write>(
-    form: usize,
-    v: &[u64; 40],
-    b: Board,
-    out: &mut W,
-    words: &[u64],
-    sharing: &[u64],
-    mem: &[u8],
-) -> io::Result<()> {
-    let tile = v[shapes::OF_TILE];
-    let place = v[shapes::PLACE];
-    match form {
-        names::SHOW => sheet::endpoint(out, tile, place, endpoints::at(words, tile, place)),
-        names::DUMP => contents::dump(out, b, mem, tile, place, v[shapes::COUNT]),
-        names::WAITING => waits::line(out, b, words, sharing, mem, tile),
-        names::SHEET => sheet_of(out, b, words, sharing),
-        names::DRAWING => drawing_of(out, b, words, sharing),
-        _ => Ok(()),
-    }
-}
-
-// A statement that does not answer.
-fn without_answer<W: Write>(
-    text: &[u8],
-    s: State,
-    form: usize,
-    v: &[u64; 40],
-    b: Board,
-    out: &mut W,
-    words: &[u64],
-    sharing: &mut [u64],
-    mem: &mut [u8],
-) -> io::Result<()> {
-    let tile = v[shapes::OF_TILE];
-    match form {
-        names::ACTIVITY => {
-            statements::set_activity(sharing, tile, v[shapes::ID]);
-            Ok(())
-        }
-        names::BYTES => {
-            let to = contents::place(b, tile, v[shapes::PLACE]);
-            contents::put_bytes(text, v[shapes::ITEMS] as usize, mem, to);
-            Ok(())
-        }
-        _ => {
-            if s.whole {
-                return printed(form, v, b, out, words, sharing, mem);
-            }
-            Ok(())
-        }
-    }
-}
-
-// The statement of a line.
-fn statement<W: Write>(
-    text: &[u8],
-    s: State,
-    form: usize,
-    v: &[u64; 40],
-    given: &[bool; 29],
-    b: Board,
-    out: &mut W,
-    words: &mut [u64],
-    sharing: &mut [u64],
-    mem: &mut [u8],
-) -> io::Result<State> {
-    if shapes::answers(form) != b'.' {
-        return answering(s, form, v, b, out, words, sharing, mem);
-    }
-    if form == names::EXPECT {
-        return expecting(s, v, given, out);
-    }
-    without_answer(text, s, form, v, b, out, words, sharing, mem)?;
-    Ok(s)
-}
-
-// What is printed after the last statement.
-fn finish<W: Write>(
+// What a run keeps from line to line: what is printed, the line's number, what the lines before it said, the last answer, and
+// the tally.
+#[derive(Drop)]
+struct Rehearsal {
+    alloc: Global,
     mode: Mode,
-    s: State,
-    b: Board,
-    out: &mut W,
-    words: &[u64],
-    sharing: &[u64],
-) -> io::Result<()> {
-    let t = s.tally();
-    match mode {
-        Mode::Whole => report::last_line(out, t),
-        Mode::Sheet => {
-            sheet_of(out, b, words, sharing)?;
-            report::last_line(out, t)
-        }
-        Mode::Drawing => {
-            drawing_of(out, b, words, sharing)?;
-            output::text(out, b"// ")?;
-            report::last_line(out, t)
-        }
-    }
+    system: System,
+    line: u64,
+    context: Context,
+    last: Option<Answered>,
+    tally: Tally,
 }
 
-fn header<W: Write>(out: &mut W, whole: bool) -> io::Result<()> {
-    if whole {
-        return report::header(out);
-    }
-    Ok(())
-}
-
-// The next line. The script has no mistake, so it is blank where it is no statement.
-fn next_line<W: Write>(
-    text: &[u8],
-    before: State,
-    b: Board,
-    out: &mut W,
-    words: &mut [u64],
-    sharing: &mut [u64],
-    mem: &mut [u8],
-    v: &mut [u64; 40],
-    given: &mut [bool; 29],
-) -> io::Result<State> {
-    let s = before.on_next_line();
-    let c = s.context;
-    match script::parse(text, c, v, given) {
-        Line::Do(form) => {
-            let t = s.in_context(script::after(c, form, v));
-            statement(text, t, form, v, given, b, out, words, sharing, mem)
+impl Rehearsal {
+    // A statement answered.
+    fn answer<W: Write>(
+        &mut self,
+        statement: &Statement<'_>,
+        answered: Answered,
+        out: &mut W,
+    ) -> io::Result<()> {
+        self.last = Some(answered);
+        self.tally.count(answered);
+        if self.mode == Mode::Whole {
+            report::answer_line(out, self.alloc, self.line, statement, answered)?;
         }
-        _ => Ok(s),
+        Ok(())
+    }
+
+    // An expectation of the last answer. The script was checked, so there is one.
+    fn expect<W: Write>(&mut self, expected: Answered, out: &mut W) -> io::Result<()> {
+        let Some(last) = self.last else {
+            return Ok(());
+        };
+        let met = last.meets(expected);
+        self.tally.expect(met);
+        if !met && self.mode == Mode::Whole {
+            report::failed_line(out, self.alloc, self.line, expected, last)?;
+        }
+        Ok(())
+    }
+
+    // What a statement prints that has no answer.
+    fn print<W: Write>(&self, statement: &Statement<'_>, out: &mut W) -> io::Result<()> {
+        match *statement {
+            Statement::Show(at) => self.system.show(at, out),
+            Statement::Dump { from, count } => self.system.dump(from, count, out),
+            Statement::Waiting { tile } => self.system.waiting(tile, out),
+            Statement::Sheet => self.system.sheet(out),
+            Statement::Drawing => self.system.drawing(out),
+            _ => Ok(()),
+        }
+    }
+
+    fn statement<W: Write>(&mut self, statement: &Statement<'_>, out: &mut W) -> io::Result<()> {
+        if let Some(answered) = self.system.carry_out(statement) {
+            return self.answer(statement, answered, out);
+        }
+        match *statement {
+            Statement::Expect { outcome, arg1 } => self.expect(Answered { outcome, arg1 }, out),
+            Statement::Activity { tile, id } => {
+                self.system.set_activity(tile, id);
+                Ok(())
+            }
+            Statement::Bytes { to, items } => {
+                self.system.put(to, items);
+                Ok(())
+            }
+            _ if self.mode == Mode::Whole => self.print(statement, out),
+            _ => Ok(()),
+        }
+    }
+
+    // The next line. The script has no mistake, so it is blank where it is no statement.
+    fn line<W: Write>(&mut self, text: &[u8], out: &mut W) -> io::Result<()> {
+        self.line = self.line.saturating_add(1);
+        let Ok(Some(statement)) = script::parse(text, self.context) else {
+            return Ok(());
+        };
+        self.context = self.context.after(&statement);
+        self.statement(&statement, out)
+    }
+
+    // What is printed after the last statement.
+    fn finish<W: Write>(&self, out: &mut W) -> io::Result<()> {
+        match self.mode {
+            Mode::Whole => {}
+            Mode::Sheet => self.system.sheet(out)?,
+            Mode::Drawing => {
+                self.system.drawing(out)?;
+                write!(out, "// ")?;
+            }
+        }
+        report::last_line(out, self.tally)
     }
 }
 
 // Runs a script that has no mistake.
 pub fn run<W: Write>(
+    alloc: Global,
     source: &[u8],
     mode: Mode,
-    b: Board,
+    system: System,
     out: &mut W,
-    words: &mut [u64],
-    sharing: &mut [u64],
-    mem: &mut [u8],
-    values: &mut [u64; 40],
-    given: &mut [bool; 29],
 ) -> io::Result<()> {
-    let whole = is_whole(mode);
-    header(out, whole)?;
-    let mut s = state::begin(whole);
-    let mut at: usize = 0;
-    while at < source.len() {
-        let end = lines::line_after(source, at);
-        let text = &source[at..end];
-        s = next_line(text, s, b, out, words, sharing, mem, values, given)?;
-        at = end;
+    if mode == Mode::Whole {
+        report::header(out)?;
     }
-    finish(mode, s, b, out, words, sharing)
+    let mut rehearsal = Rehearsal {
+        alloc,
+        mode,
+        system,
+        line: 0,
+        context: Context::at_start(),
+        last: None,
+        tally: Tally::default(),
+    };
+    for text in source.split_inclusive(|byte| *byte == b'\n') {
+        rehearsal.line(text, out)?;
+    }
+    rehearsal.finish(out)
 }

@@ -1,176 +1,187 @@
 // The fields of a statement: NAME=VALUE, in any order, up to the line's end.
-use super::{Context, Line, Read};
-use language::names::Found;
-use language::{names, shapes, wants};
-use lexer::{Kind, Token};
+ghost use Rattle.std.specs.Prelude.{◌≤◌};
+ghost use Rattle.lexer.specs.Left.{left_of};
 
+use super::Mistake;
+use language::Slot::{May, Must};
+use language::{Field, Named, Slot, Want};
+use lexer::{Kind, Token, Tokens};
+
+pub const BOARD: &[Slot] = &[Must(Field::Tiles), Must(Field::Memory)];
+
+pub const ACTIVITY: &[Slot] = &[Must(Field::Id)];
+
+pub const SEND: &[Slot] = &[
+    Must(Field::Act),
+    Must(Field::CurCrd),
+    Must(Field::MaxCrd),
+    Must(Field::MsgSz),
+    Must(Field::TgtTile),
+    Must(Field::TgtEp),
+    May(Field::TgtChip),
+    May(Field::CrdEp),
+    May(Field::Reply),
+    May(Field::Label),
+];
+
+pub const RECEIVE: &[Slot] = &[
+    Must(Field::Act),
+    Must(Field::Slots),
+    Must(Field::SlotSize),
+    Must(Field::Buffer),
+    Must(Field::RplEps),
+    May(Field::Wpos),
+    May(Field::Rpos),
+    May(Field::Occupied),
+    May(Field::Unread),
+];
+
+pub const MEMORY: &[Slot] = &[
+    Must(Field::Act),
+    Must(Field::Rw),
+    Must(Field::Tile),
+    Must(Field::Addr),
+    Must(Field::Size),
+    May(Field::Chip),
+];
+
+pub const COMMAND: &[Slot] = &[
+    May(Field::Addr),
+    May(Field::Size),
+    May(Field::Arg0),
+    May(Field::Arg1),
+];
+
+pub const ANY_COMMAND: &[Slot] = &[
+    May(Field::Addr),
+    May(Field::Size),
+    Must(Field::Opcode),
+    May(Field::Arg0),
+    May(Field::Arg1),
+];
+
+pub const XCHG_ACT: &[Slot] = &[Must(Field::Arg0)];
+
+pub const PRIVILEGED: &[Slot] = &[Must(Field::Opcode), May(Field::Arg0), May(Field::Arg1)];
+
+pub const EXPECT: &[Slot] = &[May(Field::Arg1)];
+
+// The values that were given, each at its field's number.
 #[derive(Clone, Copy)]
-enum Value {
-    Is(u64),
-    Not,
+pub struct Values {
+    given: [Option<u64>; Field::COUNT],
 }
 
-// The number that a name stands for, in a field that takes it.
-fn named(line: &[u8], t: Token, field: usize) -> Value {
-    let Found::At(k) = names::find(line, t.start, t.end, names::VALUES, names::PAST) else {
-        return Value::Not;
+impl Values {
+    fn new() -> Self {
+        Values {
+            given: [None; Field::COUNT],
+        }
+    }
+
+    pub fn get(&self, field: Field) -> Option<u64> {
+        self.given.get(field as usize).copied().flatten()
+    }
+
+    // 0 where the field was left out.
+    pub fn number(&self, field: Field) -> u64 {
+        self.get(field).unwrap_or(0)
+    }
+
+    // The same as a type that the field's values fit, since they were checked.
+    pub fn fitting<T: TryFrom<u64> + Default + Drop>(&self, field: Field) -> T
+    where
+        T::Error: Drop,
+    {
+        T::try_from(self.number(field)).unwrap_or_default()
+    }
+
+    fn set(&mut self, field: Field, value: u64) {
+        if let Some(given) = self.given.get_mut(field as usize) {
+            *given = Some(value);
+        }
+    }
+}
+
+// The field whose name is a token, where the statement has it and it was not given before.
+fn field<'a>(
+    found: Token<'a>,
+    slots: &'static [Slot],
+    values: &Values,
+) -> Result<Field, Mistake<'a>> {
+    let wrong = |want| Err(Mistake { found, want });
+    if slots.is_empty() {
+        return wrong(Want::LineEnd);
+    }
+    for slot in slots {
+        let field = slot.field();
+        if field.name().as_bytes() == found.text {
+            return match values.get(field) {
+                None => Ok(field),
+                Some(_) => wrong(Want::NotTwice),
+            };
+        }
+    }
+    wrong(Want::FieldOf(slots))
+}
+
+fn equals<'a>(tokens: &mut Tokens<'a>) -> Result<(), Mistake<'a>>
+    ensures { left_of tokens.new ≤ left_of tokens.old }
+{
+    let found = tokens.take_or_end();
+    match found.kind {
+        Kind::Equals => Ok(()),
+        _ => Err(Mistake {
+            found,
+            want: Want::Equals,
+        }),
+    }
+}
+
+// The value of a field, a number or a name that stands for one.
+fn value<'a>(tokens: &mut Tokens<'a>, field: Field) -> Result<u64, Mistake<'a>>
+    ensures { left_of tokens.new ≤ left_of tokens.old }
+{
+    let found = tokens.take_or_end();
+    let value = match found.kind {
+        Kind::Number(Ok(value)) if field.allows(value) => Some(value),
+        Kind::Word => field.value_of(found.text),
+        _ => None,
     };
-    match field {
-        shapes::CRD_EP | shapes::RPL_EPS | shapes::ARG0 => {
-            if k == names::NONE {
-                Value::Is(65535)
-            } else {
-                Value::Not
-            }
-        }
-        shapes::CUR_CRD | shapes::MAX_CRD => {
-            if k == names::UNLIMITED {
-                Value::Is(63)
-            } else {
-                Value::Not
-            }
-        }
-        shapes::RW => permission(k),
-        _ => Value::Not,
-    }
+    value.ok_or(Mistake {
+        found,
+        want: Want::Value(field),
+    })
 }
 
-fn permission(k: usize) -> Value {
-    match k {
-        names::R => Value::Is(1),
-        names::W => Value::Is(2),
-        names::RW => Value::Is(3),
-        _ => Value::Not,
-    }
-}
-
-// The value that a token says for a field.
-fn value_of(line: &[u8], t: Token, field: usize) -> Value {
-    let k = t.kind;
-    match k {
-        Kind::Number(v) => {
-            if shapes::allowed(field, v) {
-                Value::Is(v)
-            } else {
-                Value::Not
-            }
-        }
-        Kind::Word => named(line, t, field),
-        _ => Value::Not,
-    }
-}
-
-// The value at `at`, after the equals sign.
-fn keep(
-    line: &[u8],
-    at: usize,
-    field: usize,
-    values: &mut [u64; 40],
-    given: &mut [bool; 29],
-) -> Read {
-    let t = lexer::next(line, at);
-    match value_of(line, t, field) {
-        Value::Not => Read::Wrong(super::wrong(t, wants::value_of(field), field as u64)),
-        Value::Is(v) => {
-            if field < 29 {
-                values[field] = v;
-                given[field] = true;
-            }
-            Read::Upto(t.end)
+// The line's end, where all fields are given that must be.
+fn whole<'a>(found: Token<'a>, slots: &'static [Slot], values: &Values) -> Result<(), Mistake<'a>> {
+    for slot in slots {
+        if let Must(field) = *slot
+            && values.get(field).is_none()
+        {
+            return Err(Mistake {
+                found,
+                want: Want::Must(field),
+            });
         }
     }
+    Ok(())
 }
 
-fn is_given(given: &[bool; 29], field: usize) -> bool {
-    if field < 29 { given[field] } else { false }
+pub fn read<'a>(tokens: &mut Tokens<'a>, slots: &'static [Slot]) -> Result<Values, Mistake<'a>> {
+    let mut values = Values::new();
+    while let Some(found) = tokens.next() {
+        let field = field(found, slots, &values)?;
+        equals(tokens)?;
+        values.set(field, value(tokens, field)?);
+    }
+    whole(tokens.peek(), slots, &values)?;
+    Ok(values)
 }
 
-// The field's name, where the statement may have that field here. ARG_1 can be expected of a command only.
-fn admitted(t: Token, form: usize, field: usize, c: Context, given: &[bool; 29]) -> Read {
-    if shapes::mark(form, field) == b'.' {
-        return Read::Wrong(super::wrong(t, wants::FIELD_OF, form as u64));
-    }
-    if is_given(given, field) {
-        return Read::Wrong(super::wrong(t, wants::NOT_TWICE, 0));
-    }
-    if form == names::EXPECT && c.before != b'c' && c.before != b'?' {
-        return Read::Wrong(super::wrong(t, wants::NO_ARG1, 0));
-    }
-    Read::Upto(t.end)
-}
-
-// The field whose name is the token `t`.
-fn field(
-    line: &[u8],
-    t: Token,
-    form: usize,
-    c: Context,
-    values: &mut [u64; 40],
-    given: &mut [bool; 29],
-) -> Read {
-    let Found::At(k) = names::find(line, t.start, t.end, names::FIELDS, names::ANSWERS) else {
-        return Read::Wrong(super::wrong(t, wants::FIELD_OF, form as u64));
-    };
-    let number = if names::FIELDS <= k {
-        k - names::FIELDS
-    } else {
-        k
-    };
-    match admitted(t, form, number, c, given) {
-        Read::Wrong(m) => Read::Wrong(m),
-        Read::Upto(at) => {
-            let e = lexer::next(line, at);
-            let k = e.kind;
-            match k {
-                Kind::Equals => keep(line, e.end, number, values, given),
-                _ => Read::Wrong(super::wrong(e, wants::EQUALS, 0)),
-            }
-        }
-    }
-}
-
-// The statement, at the line's end `t`, where all fields are given that must be.
-fn whole(t: Token, form: usize, given: &[bool; 29]) -> Line {
-    let mut field: usize = 0;
-    while field < 29 {
-        if shapes::mark(form, field) == b'*' {
-            if !is_given(given, field) {
-                return Line::Wrong(super::wrong(t, wants::MUST, field as u64));
-            }
-        }
-        field = field + 1;
-    }
-    Line::Do(form)
-}
-
-// The fields of a statement, from `from` on. No name comes twice, so 29 turns see them all, and one more the line's end.
-pub fn read(
-    line: &[u8],
-    from: usize,
-    form: usize,
-    c: Context,
-    values: &mut [u64; 40],
-    given: &mut [bool; 29],
-) -> Line {
-    let mut at = from;
-    let mut turn: usize = 0;
-    while turn < 29 {
-        let t = lexer::next(line, at);
-        if t.end <= at {
-            return whole(t, form, given);
-        }
-        if !shapes::has_fields(form) {
-            return Line::Wrong(super::wrong(t, wants::LINE_END, 0));
-        }
-        match field(line, t, form, c, values, given) {
-            Read::Wrong(m) => {
-                return Line::Wrong(m);
-            }
-            Read::Upto(end) => {
-                at = end;
-            }
-        }
-        turn = turn + 1;
-    }
-    whole(lexer::next(line, at), form, given)
+// The end of a statement that has no fields.
+pub fn none<'a>(tokens: &mut Tokens<'a>) -> Result<(), Mistake<'a>> {
+    read(tokens, &[])?;
+    Ok(())
 }

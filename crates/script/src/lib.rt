@@ -1,234 +1,200 @@
-// The statements of a script, one to a line (docs/SCRIPT.md). `parse` reads a line: it writes the values into an array that is
-// lent, and answers which statement it is, or the mistake. What each statement is made of stands in the tables of `language`.
+// The statements of a script, one to a line (docs/SCRIPT.md). `parse` reads a line: it answers the statement, nothing where the
+// line is blank, or the mistake.
 #![tactic(auto)]
 
+mod contexts;
+mod endpoints;
 mod fields;
+mod items;
 mod operands;
+mod statements;
 
 use board::Board;
-use language::names::Found;
-use language::{names, shapes, wants};
-use lexer::{Kind, Token};
+use command::Registers;
+pub use contexts::{Before, Context};
+use fields::Values;
+pub use items::Item;
+use language::{Field, Keyword, Want};
+use lexer::{Token, Tokens};
+pub use statements::{Address, Given, Place, Statement};
 
-// Where in the line a mistake stands, and what was expected there: a row of `wants`, and its detail. At the line's end it has
-// no byte.
-#[derive(Clone, Copy)]
-pub struct Mistake {
-    pub start: usize,
-    pub end: usize,
-    pub want: usize,
-    pub detail: u64,
+// What stands where something else was expected. At the line's end the token has no byte.
+#[derive(Clone, Copy, Debug)]
+pub struct Mistake<'a> {
+    pub found: Token<'a>,
+    pub want: Want,
 }
 
-#[derive(Clone, Copy)]
-pub enum Line {
-    Blank,
-    Do(usize),
-    Wrong(Mistake),
-}
-
-// How far a part of a line was read, or the mistake.
-#[derive(Clone, Copy)]
-enum Read {
-    Upto(usize),
-    Wrong(Mistake),
-}
-
-// What the lines before a line said of it: the board, with no tile before it is known; whether `board` was read; and what the
-// statement right before answers, as in `shapes`, or ? after a mistake, where nothing is known.
-#[derive(Clone, Copy)]
-pub struct Context {
-    pub board: Board,
-    pub board_read: bool,
-    pub before: u8,
-}
-
-// Before the first line.
-pub fn at_start() -> Context {
-    Context {
-        board: Board { tiles: 0, pages: 0 },
-        board_read: false,
-        before: b'.',
+// The rest of a `board`: `pages`, or the fields. A mistake right after `board` may be one of either form, so both are told.
+fn board<'a>(tokens: &mut Tokens<'a>) -> Result<Board, Mistake<'a>> {
+    let found = tokens.peek();
+    if matches!(found.text, b"pages") {
+        tokens.take_or_end();
+        return operands::pages(tokens);
+    }
+    match fields::read(tokens, fields::BOARD) {
+        Ok(values) => Ok(Board {
+            tiles: values.number(Field::Tiles),
+            pages: contexts::alike(values.number(Field::Memory)),
+        }),
+        Err(mistake) if mistake.found.start == found.start => Err(Mistake {
+            found,
+            want: Want::BoardForm,
+        }),
+        Err(mistake) => Err(mistake),
     }
 }
 
-// The same number of pages for each tile, in the bytes of a word. The remainder changes no memory that a script may give.
-fn alike(memory: u64) -> u64 {
-    memory / 4096 % 256 * 0x0101_0101_0101_0101
-}
-
-// After a `board`.
-fn after_board(tiles: u64, pages: u64) -> Context {
-    Context {
-        board: Board { tiles, pages },
-        board_read: true,
-        before: b'.',
+fn registers(values: &Values) -> Registers {
+    Registers {
+        arg0: values.number(Field::Arg0),
+        addr: values.number(Field::Addr),
+        size: values.number(Field::Size),
+        arg1: values.number(Field::Arg1),
     }
 }
 
-// After a statement.
-pub fn after(c: Context, form: usize, values: &[u64; 40]) -> Context {
-    match form {
-        names::BOARD => after_board(values[shapes::TILES], alike(values[shapes::MEMORY])),
-        names::PAGES => after_board(values[shapes::TILES], values[shapes::PAGES]),
+// A command by its name, or by the opcode's number.
+fn command<'a>(keyword: Keyword, tokens: &mut Tokens<'a>) -> Result<Statement<'a>, Mistake<'a>> {
+    let at = operands::place(tokens, u64::MAX, u64::MAX)?;
+    let (opcode, values) = match keyword {
+        Keyword::Named(opcode) => (opcode.number(), fields::read(tokens, fields::COMMAND)?),
         _ => {
-            let board = c.board;
-            Context {
-                board,
-                board_read: c.board_read,
-                before: shapes::answers(form),
-            }
+            let values = fields::read(tokens, fields::ANY_COMMAND)?;
+            (values.number(Field::Opcode), values)
         }
-    }
+    };
+    Ok(Statement::Command {
+        keyword,
+        at,
+        opcode,
+        registers: registers(&values),
+    })
 }
 
-// After a mistake. What follows is checked as if it had been right, so that one mistake is told once: where no board was
-// read, on the largest.
-pub fn after_mistake(c: Context) -> Context {
-    let board = c.board;
-    if board.tiles == 0 {
-        return Context {
-            board: Board {
-                tiles: 8,
-                pages: alike(65536),
-            },
-            board_read: false,
-            before: b'?',
-        };
-    }
-    Context {
-        board,
-        board_read: c.board_read,
-        before: b'?',
-    }
-}
-
-// The token is a mistake.
-fn wrong(t: Token, want: usize, detail: u64) -> Mistake {
-    Mistake {
-        start: t.start,
-        end: t.end,
-        want,
-        detail,
-    }
-}
-
-fn clear(values: &mut [u64; 40], given: &mut [bool; 29]) {
-    *values = [0u64; 40];
-    *given = [false; 29];
-}
-
-// The rest of a statement from `at` on: its operands, then its fields.
-fn rest(
-    line: &[u8],
-    at: usize,
-    form: usize,
-    c: Context,
-    values: &mut [u64; 40],
-    given: &mut [bool; 29],
-) -> Line {
-    match operands::read(line, at, form, c, values) {
-        Read::Upto(end) => fields::read(line, end, form, c, values, given),
-        Read::Wrong(m) => Line::Wrong(m),
-    }
-}
-
-// The rest of an `endpoint`: its kind, which makes a statement of its own, and what that is made of.
-fn endpoint(
-    line: &[u8],
-    at: usize,
-    c: Context,
-    values: &mut [u64; 40],
-    given: &mut [bool; 29],
-) -> Line {
-    let t = lexer::next(line, at);
-    match names::find(line, t.start, t.end, names::KINDS, names::PAGES) {
-        Found::At(form) => rest(line, t.end, form, c, values, given),
-        Found::Nothing => Line::Wrong(wrong(t, wants::KIND, 0)),
-    }
-}
-
-// A mistake right after `board` may be one of either form, so both are told.
-fn of_either_form(t: Token, read: Line) -> Line {
-    match read {
-        Line::Wrong(m) => {
-            if m.start == t.start {
-                return Line::Wrong(wrong(t, wants::BOARD_FORM, 0));
-            }
-            Line::Wrong(m)
+// A privileged command by its name, or by the opcode's number.
+fn privileged<'a>(keyword: Keyword, tokens: &mut Tokens<'a>) -> Result<Statement<'a>, Mistake<'a>> {
+    let tile = operands::tile(tokens, u64::MAX)?;
+    let (opcode, values) = match keyword {
+        Keyword::XchgAct => (4, fields::read(tokens, fields::XCHG_ACT)?),
+        _ => {
+            let values = fields::read(tokens, fields::PRIVILEGED)?;
+            (values.number(Field::Opcode), values)
         }
-        _ => read,
-    }
+    };
+    Ok(Statement::Privileged {
+        keyword,
+        tile,
+        opcode,
+        arg0: values.number(Field::Arg0),
+        arg1: values.number(Field::Arg1),
+    })
 }
 
-// The rest of a `board`: `pages`, which makes a statement of its own, or the fields.
-fn board(
-    line: &[u8],
-    at: usize,
-    c: Context,
-    values: &mut [u64; 40],
-    given: &mut [bool; 29],
-) -> Line {
-    let t = lexer::next(line, at);
-    match names::find(line, t.start, t.end, names::PAGES, names::FIELDS) {
-        Found::At(form) => rest(line, t.end, form, c, values, given),
-        Found::Nothing => of_either_form(t, rest(line, at, names::BOARD, c, values, given)),
+// ARG_1 can be expected of a command only.
+fn expect<'a>(tokens: &mut Tokens<'a>, before: Before) -> Result<Statement<'a>, Mistake<'a>> {
+    let outcome = operands::outcome(tokens, before)?;
+    let found = tokens.peek();
+    if matches!(found.text, b"arg1") && !before.may_be_command() {
+        return Err(Mistake {
+            found,
+            want: Want::NoArg1,
+        });
     }
+    let values = fields::read(tokens, fields::EXPECT)?;
+    Ok(Statement::Expect {
+        outcome,
+        arg1: values.get(Field::Arg1),
+    })
 }
 
-// The statement whose name is the token `t`.
-fn statement(
-    line: &[u8],
-    t: Token,
-    form: usize,
-    c: Context,
-    values: &mut [u64; 40],
-    given: &mut [bool; 29],
-) -> Line {
-    match form {
-        names::BOARD => board(line, t.end, c, values, given),
-        names::ENDPOINT => match operands::read(line, t.end, form, c, values) {
-            Read::Upto(end) => endpoint(line, end, c, values, given),
-            Read::Wrong(m) => Line::Wrong(m),
+fn activity<'a>(tokens: &mut Tokens<'a>, last: u64) -> Result<Statement<'a>, Mistake<'a>> {
+    let tile = operands::tile(tokens, last)?;
+    let values = fields::read(tokens, fields::ACTIVITY)?;
+    Ok(Statement::Activity {
+        tile,
+        id: values.fitting(Field::Id),
+    })
+}
+
+fn endpoint<'a>(tokens: &mut Tokens<'a>) -> Result<Statement<'a>, Mistake<'a>> {
+    let at = operands::place(tokens, u64::MAX, u64::MAX)?;
+    let given = endpoints::given(tokens)?;
+    Ok(Statement::Endpoint { at, given })
+}
+
+fn bytes<'a>(tokens: &mut Tokens<'a>, board: Board) -> Result<Statement<'a>, Mistake<'a>> {
+    let to = operands::address(tokens, board)?;
+    let items = items::read(tokens, to.room(board))?;
+    Ok(Statement::Bytes { to, items })
+}
+
+fn dump<'a>(tokens: &mut Tokens<'a>, board: Board) -> Result<Statement<'a>, Mistake<'a>> {
+    let from = operands::address(tokens, board)?;
+    let count = operands::count(tokens, from.room(board))?;
+    Ok(Statement::Dump { from, count })
+}
+
+// The statement that a keyword starts, up to the line's end.
+fn statement<'a>(
+    keyword: Keyword,
+    tokens: &mut Tokens<'a>,
+    known: Board,
+    before: Before,
+) -> Result<Statement<'a>, Mistake<'a>> {
+    let last = known.tiles.saturating_sub(1);
+    let statement = match keyword {
+        Keyword::Board => Statement::Board(board(tokens)?),
+        Keyword::Activity => activity(tokens, last)?,
+        Keyword::Endpoint => endpoint(tokens)?,
+        Keyword::Invalidate => {
+            Statement::Invalidate(operands::place(tokens, u64::MAX, u64::MAX)?)
+        }
+        Keyword::Bytes => bytes(tokens, known)?,
+        Keyword::Named(_) | Keyword::Command => command(keyword, tokens)?,
+        Keyword::XchgAct | Keyword::Privileged => privileged(keyword, tokens)?,
+        Keyword::Respond => Statement::Respond {
+            tile: operands::tile(tokens, u64::MAX)?,
         },
-        _ => rest(line, t.end, form, c, values, given),
-    }
-}
-
-// The same, where the statement may stand here.
-fn in_its_place(
-    line: &[u8],
-    t: Token,
-    form: usize,
-    c: Context,
-    values: &mut [u64; 40],
-    given: &mut [bool; 29],
-) -> Line {
-    if form == names::BOARD {
-        if c.board_read {
-            return Line::Wrong(wrong(t, wants::BOARD_ONCE, 0));
-        }
-        return statement(line, t, form, c, values, given);
-    }
-    if c.board.tiles == 0 {
-        return Line::Wrong(wrong(t, wants::BOARD_FIRST, 0));
-    }
-    if form == names::EXPECT && c.before == b'.' {
-        return Line::Wrong(wrong(t, wants::ANSWER_BEFORE, 0));
-    }
-    statement(line, t, form, c, values, given)
-}
-
-// What a line says.
-pub fn parse(line: &[u8], c: Context, values: &mut [u64; 40], given: &mut [bool; 29]) -> Line {
-    clear(values, given);
-    let t = lexer::next(line, 0);
-    let k = t.kind;
-    match k {
-        Kind::End => Line::Blank,
-        _ => match names::find(line, t.start, t.end, names::STATEMENTS, names::KINDS) {
-            Found::At(form) => in_its_place(line, t, form, c, values, given),
-            Found::Nothing => Line::Wrong(wrong(t, wants::STATEMENT, 0)),
+        Keyword::Wiring => Statement::Wiring,
+        Keyword::Expect => expect(tokens, before)?,
+        Keyword::Show => Statement::Show(operands::place(tokens, last, 63)?),
+        Keyword::Dump => dump(tokens, known)?,
+        Keyword::Waiting => Statement::Waiting {
+            tile: operands::tile(tokens, last)?,
         },
+        Keyword::Sheet => Statement::Sheet,
+        Keyword::Drawing => Statement::Drawing,
+    };
+    fields::none(tokens)?;
+    Ok(statement)
+}
+
+// May the statement of a keyword stand here? Else what was expected in its place.
+fn in_its_place(keyword: Keyword, context: Context) -> Result<(), Want> {
+    match keyword {
+        Keyword::Board if context.has_read_board() => Err(Want::BoardOnce),
+        Keyword::Board => Ok(()),
+        _ if context.board().is_none() => Err(Want::BoardFirst),
+        Keyword::Expect if context.before == Before::Nothing => Err(Want::AnswerBefore),
+        _ => Ok(()),
     }
+}
+
+// What a line says. Before `board` no tile is known.
+pub fn parse<'a>(line: &'a [u8], context: Context) -> Result<Option<Statement<'a>>, Mistake<'a>> {
+    let mut tokens = Tokens::new(line);
+    let Some(found) = tokens.next() else {
+        return Ok(None);
+    };
+    let Some(keyword) = language::find(found.text) else {
+        let want = Want::Statement;
+        return Err(Mistake { found, want });
+    };
+    if let Err(want) = in_its_place(keyword, context) {
+        return Err(Mistake { found, want });
+    }
+    let known = context.board().unwrap_or(Board { tiles: 0, pages: 0 });
+    let statement = statement(keyword, &mut tokens, known, context.before)?;
+    Ok(Some(statement))
 }

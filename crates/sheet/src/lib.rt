@@ -10,6 +10,7 @@ mod statement;
 
 pub use statement::endpoint;
 
+// Board, words and activities are what a caller lends; where they can be told, they become `Channels`.
 pub fn sheet<W: Write>(out: &mut W, b: Board, words: &[u64], acts: &[u16]) -> io::Result<()> {
     listing::sheet(out, b, words, acts)
 }

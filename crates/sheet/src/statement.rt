@@ -1,96 +1,66 @@
 // One endpoint as the statement of docs/SCRIPT.md that configures it, with every field named.
 use endpoint::{Endpoint, MemoryFields, ReceiveFields, SendFields};
-use form::say;
+use form::{Credits, EndpointOrNone, Permission};
 use std::io::{self, Write};
 
-// The fields, in the order in which their statement names them.
-fn send_values(s: SendFields) -> [u64; 10] {
-    [
-        s.act as u64,
-        s.cur_crd as u64,
-        s.max_crd as u64,
-        s.msg_sz as u64,
-        s.tgt_tile as u64,
-        s.tgt_ep as u64,
-        s.tgt_chip as u64,
-        s.crd_ep as u64,
-        s.reply as u64,
-        s.label,
-    ]
-}
-
-fn receive_values(r: ReceiveFields) -> [u64; 9] {
-    [
-        r.act as u64,
-        r.slots as u64,
-        r.slot_size as u64,
-        r.buffer,
-        r.rpl_eps as u64,
-        r.wpos as u64,
-        r.rpos as u64,
-        r.occupied as u64,
-        r.unread as u64,
-    ]
-}
-
-fn memory_values(m: MemoryFields) -> [u64; 6] {
-    [
-        m.act as u64,
-        m.rw as u64,
-        m.tile as u64,
-        m.addr,
-        m.size,
-        m.chip as u64,
-    ]
-}
-
 fn send<W: Write>(out: &mut W, s: SendFields) -> io::Result<()> {
-    let values = send_values(s);
-    say(
+    let cur_crd = Credits(s.cur_crd);
+    let max_crd = Credits(s.max_crd);
+    let crd_ep = EndpointOrNone(s.crd_ep);
+    let reply = u8::from(s.reply);
+    write!(
         out,
-        b" send act=# cur_crd=~ max_crd=~ msg_sz=#",
-        &values[0..4],
+        " send act={} cur_crd={cur_crd} max_crd={max_crd}",
+        s.act
     )?;
-    say(out, b" tgt_tile=# tgt_ep=# tgt_chip=#", &values[4..7])?;
-    say(out, b" crd_ep=? reply=# label=$\n", &values[7..10])
+    write!(
+        out,
+        " msg_sz={} tgt_tile={} tgt_ep={}",
+        s.msg_sz, s.tgt_tile, s.tgt_ep
+    )?;
+    write!(
+        out,
+        " tgt_chip={} crd_ep={crd_ep} reply={reply}",
+        s.tgt_chip
+    )?;
+    writeln!(out, " label={:#x}", s.label)
 }
 
 fn receive<W: Write>(out: &mut W, r: ReceiveFields) -> io::Result<()> {
-    let values = receive_values(r);
-    say(
+    let rpl_eps = EndpointOrNone(r.rpl_eps);
+    write!(
         out,
-        b" receive act=# slots=# slot_size=# buffer=$",
-        &values[0..4],
+        " receive act={} slots={} slot_size={}",
+        r.act, r.slots, r.slot_size
     )?;
-    say(
+    write!(
         out,
-        b" rpl_eps=? wpos=# rpos=# occupied=$ unread=$\n",
-        &values[4..9],
+        " buffer={:#x} rpl_eps={rpl_eps} wpos={}",
+        r.buffer, r.wpos
+    )?;
+    writeln!(
+        out,
+        " rpos={} occupied={:#x} unread={:#x}",
+        r.rpos, r.occupied, r.unread
     )
 }
 
 fn memory<W: Write>(out: &mut W, m: MemoryFields) -> io::Result<()> {
-    let values = memory_values(m);
-    say(
-        out,
-        b" memory act=# rw=% tile=# addr=$ size=# chip=#\n",
-        &values,
-    )
+    let rw = Permission(m.rw);
+    write!(out, " memory act={} rw={rw} tile={}", m.act, m.tile)?;
+    writeln!(out, " addr={:#x} size={} chip={}", m.addr, m.size, m.chip)
 }
 
-fn configured<W: Write>(out: &mut W, e: Endpoint) -> io::Result<()> {
+pub fn endpoint<W: Write>(out: &mut W, tile: u64, ep: u64, e: Endpoint) -> io::Result<()> {
+    let verb = match e {
+        Endpoint::Invalid => "invalidate",
+        _ => "endpoint",
+    };
+    write!(out, "{verb} {tile}:{ep}")?;
     match e {
-        Endpoint::Invalid => Ok(()),
+        Endpoint::Invalid => writeln!(out),
         Endpoint::Send(s) => send(out, s),
         Endpoint::Receive(r) => receive(out, r),
         Endpoint::Memory(m) => memory(out, m),
     }
-}
-
-pub fn endpoint<W: Write>(out: &mut W, tile: u64, ep: u64, e: Endpoint) -> io::Result<()> {
-    if let Endpoint::Invalid = e {
-        return say(out, b"invalidate #:#\n", &[tile, ep]);
-    }
-    say(out, b"endpoint #:#", &[tile, ep])?;
-    configured(out, e)
 }

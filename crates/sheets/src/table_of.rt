@@ -1,80 +1,80 @@
-// Endpoints put into a table. The fields come in the order in which docs/SCRIPT.md names them, and each is cut to its type.
+// Endpoints put into a table. The fields of one stand in a row, in the order in which docs/SCRIPT.md names them: as a struct with
+// names, each of some fifty endpoints would take ten lines in place of one.
 ghost use Rattle.std.specs.Prelude.{◌<◌};
 
 use endpoint::{Endpoint, MemoryFields, ReceiveFields, SendFields};
 
 // Three tiles.
-pub type Table = [u64; 576];
-
-fn byte(x: u64) -> u8 {
-    (x % 0x100) as u8
+#[derive(Drop)]
+pub struct Table {
+    pub words: [u64; 576],
 }
 
-fn half(x: u64) -> u16 {
-    (x % 0x10000) as u16
-}
+impl Table {
+    // With no endpoint.
+    pub fn new() -> Table {
+        Table { words: [0; 576] }
+    }
 
-fn word(x: u64) -> u32 {
-    (x % 0x1_0000_0000) as u32
+    pub fn put(&mut self, tile: usize, ep: u64, e: Endpoint)
+        requires { (tile < 3) × (ep < 64) }
+    {
+        table::store(&mut self.words, tile, ep, e);
+    }
+
+    pub fn first_two(&self) -> &[u64] {
+        &self.words[..384]
+    }
 }
 
 // act, cur_crd, max_crd, msg_sz, tgt_tile, tgt_ep, tgt_chip, crd_ep, reply, label
-pub fn send_of(f: [u64; 10]) -> Endpoint {
+type SendRow = (u16, u8, u8, u8, u8, u16, u8, u16, bool, u64);
+
+pub fn send(row: SendRow) -> Endpoint {
+    let (act, cur_crd, max_crd, msg_sz, tgt_tile, tgt_ep, tgt_chip, crd_ep, reply, label) = row;
     Endpoint::Send(SendFields {
-        act: half(f[0]),
-        cur_crd: byte(f[1]),
-        max_crd: byte(f[2]),
-        msg_sz: byte(f[3]),
-        crd_ep: half(f[7]),
-        reply: f[8] == 1,
-        tgt_ep: half(f[5]),
-        tgt_tile: byte(f[4]),
-        tgt_chip: byte(f[6]),
-        label: f[9],
+        act,
+        cur_crd,
+        max_crd,
+        msg_sz,
+        crd_ep,
+        reply,
+        tgt_ep,
+        tgt_tile,
+        tgt_chip,
+        label,
     })
 }
 
 // act, slots, slot_size, buffer, rpl_eps, occupied, unread
-pub fn receive_of(f: [u64; 7]) -> Endpoint {
+type ReceiveRow = (u16, u8, u8, u64, u16, u32, u32);
+
+pub fn receive(row: ReceiveRow) -> Endpoint {
+    let (act, slots, slot_size, buffer, rpl_eps, occupied, unread) = row;
     Endpoint::Receive(ReceiveFields {
-        act: half(f[0]),
-        rpl_eps: half(f[4]),
-        slots: byte(f[1]),
-        slot_size: byte(f[2]),
+        act,
+        rpl_eps,
+        slots,
+        slot_size,
         wpos: 0,
         rpos: 0,
-        buffer: f[3],
-        occupied: word(f[5]),
-        unread: word(f[6]),
+        buffer,
+        occupied,
+        unread,
     })
 }
 
 // act, rw, tile, addr, size, chip
-pub fn memory_of(f: [u64; 6]) -> Endpoint {
+type MemoryRow = (u16, u8, u8, u64, u64, u8);
+
+pub fn memory(row: MemoryRow) -> Endpoint {
+    let (act, rw, tile, addr, size, chip) = row;
     Endpoint::Memory(MemoryFields {
-        act: half(f[0]),
-        rw: byte(f[1]),
-        tile: byte(f[2]),
-        chip: byte(f[5]),
-        addr: f[3],
-        size: f[4],
+        act,
+        rw,
+        tile,
+        chip,
+        addr,
+        size,
     })
-}
-
-pub fn send(words: &mut Table, tile: usize, ep: u64, f: [u64; 10])
-    requires { (tile < 3) × (ep < 64) }
-{
-    table::store(words, tile, ep, send_of(f));
-}
-
-pub fn receive(words: &mut Table, tile: usize, ep: u64, f: [u64; 7])
-    requires { (tile < 3) × (ep < 64) }
-{
-    table::store(words, tile, ep, receive_of(f));
-}
-
-pub fn memory(words: &mut Table, tile: usize, ep: u64, f: [u64; 6])
-    requires { (tile < 3) × (ep < 64) }
-{
-    table::store(words, tile, ep, memory_of(f));
 }

@@ -1,195 +1,212 @@
 // What each statement does on the board.
 #![tactic(auto)]
 
-pub mod endpoints;
+ghost use Rattle.std.specs.Prelude.{◌≡◌, true, IfOk, vec_len};
+ghost use Rattle.board.specs.Board.{allowed, sizes_right};
 
-use answers::Answer;
+mod printing;
+
+use answers::Error;
 use board::Board;
-use command::Registers;
+use command::{Completion, Registers};
 use endpoint::Words;
-use language::{names, shapes};
+use language::Outcome;
+use lexer::Tokens;
 use report::Answered;
-use wiring::Wiring;
+use script::{Address, Item, Place, Statement};
+use std::alloc::{AllocError, Global};
 
-// The answer with its name.
-fn named(a: Answer, arg1: u64) -> Answered {
-    let number = answers::number(a) as u64;
+// How many words an endpoint has, a tile's endpoints have, and a tile's sharing record has; the record begins with CUR_ACT.
+const ENDPOINT: usize = 3;
+
+const ENDPOINTS: usize = 192;
+
+const RECORD: usize = 67;
+
+// A board, and what the machine is lent of it: the endpoints of all tiles, their sharing records, and their memory.
+#[derive(Drop)]
+pub struct System {
+    pub board: Board,
+    pub words: Vec<u64>,
+    pub sharing: Vec<u64>,
+    pub memory: Vec<u8>,
+}
+
+// An answer without ARG_1.
+fn answered<T: Drop>(answer: Result<T, Error>) -> Answered {
     Answered {
-        number,
-        row: names::answer_name(number),
-        arg1,
-    }
-}
-
-fn opcode(form: usize, v: &[u64; 40]) -> u64 {
-    if form < names::IDLE || names::COMMAND <= form {
-        return v[shapes::OPCODE];
-    }
-    (form - names::IDLE) as u64
-}
-
-// A command of a tile.
-fn command(
-    form: usize,
-    v: &[u64; 40],
-    b: Board,
-    words: &mut [u64],
-    sharing: &mut [u64],
-    mem: &mut [u8],
-) -> Answered {
-    let a = Registers {
-        arg0: v[shapes::ARG0],
-        addr: v[shapes::ADDR],
-        size: v[shapes::SIZE],
-        arg1: v[shapes::ARG1],
-    };
-    let code = opcode(form, v);
-    let done = machine::carry_out(
-        b,
-        words,
-        sharing,
-        mem,
-        v[shapes::OF_TILE],
-        code,
-        v[shapes::PLACE],
-        a,
-    );
-    let answer = done.answer;
-    named(answer, done.arg1)
-}
-
-// The three words that an `endpoint` statement gives: by themselves, or those of the fields. Whether they are acceptable is the
-// machine's to say.
-fn words_given(form: usize, v: &[u64; 40]) -> Words {
-    if form == names::WORDS_KIND {
-        return Words {
-            first: v[shapes::FIRST],
-            second: v[shapes::SECOND],
-            third: v[shapes::THIRD],
-        };
-    }
-    endpoint::words_of(endpoints::given_by(form, v))
-}
-
-// An `endpoint` or an `invalidate`.
-fn configure(
-    form: usize,
-    v: &[u64; 40],
-    b: Board,
-    words: &mut [u64],
-    sharing: &[u64],
-    mem: &[u8],
-) -> Answered {
-    let tile = v[shapes::OF_TILE];
-    let ep = v[shapes::PLACE];
-    if form == names::INVALIDATE {
-        return named(machine::invalidate(b, words, sharing, mem, tile, ep), 0);
-    }
-    let w = words_given(form, v);
-    named(machine::configure(b, words, sharing, mem, tile, ep, w), 0)
-}
-
-// The wiring check.
-fn check_wiring(b: Board, words: &[u64], sharing: &[u64], mem: &[u8]) -> Answered {
-    match wiring::check_wiring(b, words, sharing, mem) {
-        Wiring::Yes => Answered {
-            number: 0,
-            row: names::YES,
-            arg1: 0,
+        outcome: match answer {
+            Ok(_) => Outcome::Done,
+            Err(error) => Outcome::Refused(error),
         },
-        Wiring::No => Answered {
-            number: 0,
-            row: names::NO,
-            arg1: 0,
-        },
-        Wiring::Refused(e) => named(Answer::Refused(e), 0),
+        arg1: None,
     }
 }
 
-// A privileged command of a tile, by its name or by the opcode's number.
-fn privileged(
-    form: usize,
-    v: &[u64; 40],
-    b: Board,
-    words: &[u64],
-    sharing: &mut [u64],
-    mem: &[u8],
-) -> Answered {
-    let opcode = if form == names::XCHG_ACT {
-        4
-    } else {
-        v[shapes::OPCODE]
-    };
-    let tile = v[shapes::OF_TILE];
-    let done = machine::privileged(
-        b,
-        words,
-        sharing,
-        mem,
-        tile,
-        opcode,
-        v[shapes::ARG0],
-        v[shapes::ARG1],
-    );
-    let answer = done.answer;
-    named(answer, done.arg1)
-}
-
-// A response from a tile.
-fn respond(v: &[u64; 40], b: Board, words: &[u64], sharing: &mut [u64], mem: &[u8]) -> Answered {
-    let done = machine::respond(b, words, sharing, mem, v[shapes::OF_TILE]);
-    let answer = done.answer;
-    named(answer, 0)
-}
-
-// A statement that answers.
-pub fn carry_out(
-    form: usize,
-    v: &[u64; 40],
-    b: Board,
-    words: &mut [u64],
-    sharing: &mut [u64],
-    mem: &mut [u8],
-) -> Answered {
-    match form {
-        names::XCHG_ACT | names::PRIVILEGED => privileged(form, v, b, words, sharing, mem),
-        names::RESPOND => respond(v, b, words, sharing, mem),
-        names::WIRING => check_wiring(b, words, sharing, mem),
-        names::IDLE..=names::COMMAND => command(form, v, b, words, sharing, mem),
-        _ => configure(form, v, b, words, sharing, mem),
+// A command's answer, where ARG_1 was given: a refusal leaves it as it was.
+fn completed(arg1: u64, answer: Result<Completion, Error>) -> Answered {
+    Answered {
+        arg1: Some(answer.map_or(arg1, |completion| completion.arg1)),
+        ..answered(answer)
     }
 }
 
-// ---- the sharing of the tiles
+impl System {
+    // A board at its start: every endpoint is INVALID, and every byte 0.
+    #[tactic(auto, unfolding(board::specs::Board::sizes_right, board::specs::Board::allowed))]
+    pub fn new(alloc: Global, board: Board) -> Result<Self, AllocError>
+        ensures board { IfOk result (λ s. s.board ≡ board) }
+        ensures sizes { allowed board ≡ true
+            → IfOk result (λ s. sizes_right board (vec_len s.words) (vec_len s.sharing) (vec_len s.memory) ≡ true) }
+    {
+        let tiles = board.tiles.min(8) as usize;
+        Ok(System {
+            board,
+            words: vec![in alloc; 0u64; tiles * ENDPOINTS]?,
+            sharing: vec![in alloc; 0u64; tiles * RECORD]?,
+            memory: vec![in alloc; 0u8; contents::bytes_of(board)]?,
+        })
+    }
 
-fn id_of(sharing: &[u64], tile: usize) -> u16 {
-    if tile < 8 {
-        let i = tile * 67;
-        if i < sharing.len() {
-            return (sharing[i] % 0x10000) as u16;
+    fn configure(&mut self, at: Place, words: Words) -> Answered {
+        answered(machine::configure(
+            self.board,
+            &mut self.words,
+            &self.sharing,
+            &self.memory,
+            at.tile,
+            at.endpoint,
+            words,
+        ))
+    }
+
+    fn invalidate(&mut self, at: Place) -> Answered {
+        answered(machine::invalidate(
+            self.board,
+            &mut self.words,
+            &self.sharing,
+            &self.memory,
+            at.tile,
+            at.endpoint,
+        ))
+    }
+
+    // The opcode is a number, since a script may give one that the machine refuses.
+    fn command(&mut self, at: Place, opcode: u64, registers: Registers) -> Answered {
+        let done = machine::carry_out(
+            self.board,
+            &mut self.words,
+            &mut self.sharing,
+            &mut self.memory,
+            at.tile,
+            opcode,
+            at.endpoint,
+            registers,
+        );
+        completed(registers.arg1, done)
+    }
+
+    fn privileged(&mut self, tile: u64, opcode: u64, arg0: u64, arg1: u64) -> Answered {
+        let done = machine::privileged(
+            self.board,
+            &self.words,
+            &mut self.sharing,
+            &self.memory,
+            tile,
+            opcode,
+            arg0,
+            arg1,
+        );
+        completed(arg1, done)
+    }
+
+    fn respond(&mut self, tile: u64) -> Answered {
+        answered(machine::respond(
+            self.board,
+            &self.words,
+            &mut self.sharing,
+            &self.memory,
+            tile,
+        ))
+    }
+
+    fn check_wiring(&self) -> Answered {
+        let sound = wiring::check_wiring(self.board, &self.words, &self.sharing, &self.memory);
+        Answered {
+            outcome: match sound {
+                Ok(true) => Outcome::Yes,
+                Ok(false) => Outcome::No,
+                Err(error) => Outcome::Refused(error),
+            },
+            arg1: None,
         }
     }
-    0
+
+    // What a statement answers that answers.
+    pub fn carry_out(&mut self, statement: &Statement<'_>) -> Option<Answered> {
+        match *statement {
+            Statement::Endpoint { at, given } => Some(self.configure(at, given.words())),
+            Statement::Invalidate(at) => Some(self.invalidate(at)),
+            Statement::Command {
+                at,
+                opcode,
+                registers,
+                ..
+            } => Some(self.command(at, opcode, registers)),
+            Statement::Privileged {
+                tile,
+                opcode,
+                arg0,
+                arg1,
+                ..
+            } => Some(self.privileged(tile, opcode, arg0, arg1)),
+            Statement::Respond { tile } => Some(self.respond(tile)),
+            Statement::Wiring => Some(self.check_wiring()),
+            _ => None,
+        }
+    }
+
+    // A tile's activity is this one from now on, with no unread message.
+    pub fn set_activity(&mut self, tile: u64, id: u16) {
+        let mut cur_acts = self.sharing.iter_mut().step_by(RECORD);
+        if let Some(word) = cur_acts.nth(tile as usize) {
+            *word = u64::from(id);
+        }
+    }
+
+    // CUR_ACT of a tile; 0 for a tile that the board does not have.
+    fn cur_act(&self, tile: usize) -> u64 {
+        let mut cur_acts = self.sharing.iter().step_by(RECORD);
+        cur_acts.nth(tile).copied().unwrap_or(0)
+    }
+
+    // Puts the items of `bytes` from an address on.
+    pub fn put(&mut self, to: Address, items: Tokens<'_>) {
+        let mut at = contents::place(self.board, to.tile, to.byte);
+        for token in items {
+            if let Ok(item) = Item::try_from(token.kind) {
+                contents::put(&mut self.memory, at, item.as_bytes());
+                at = at.saturating_add(item.as_bytes().len());
+            }
+        }
+    }
 }
 
-// The activity of each tile; 0 for those that the board does not have.
-pub fn activities(sharing: &[u64]) -> [u16; 8] {
-    [
-        id_of(sharing, 0),
-        id_of(sharing, 1),
-        id_of(sharing, 2),
-        id_of(sharing, 3),
-        id_of(sharing, 4),
-        id_of(sharing, 5),
-        id_of(sharing, 6),
-        id_of(sharing, 7),
-    ]
-}
+#[cfg(test)]
+mod tests {
+    use super::*;
+    use std::test::Fail;
 
-// A tile's activity is this one from now on, with no unread message.
-pub fn set_activity(sharing: &mut [u64], tile: u64, id: u64) {
-    let i = ((tile % 8) * 67) as usize;
-    if i < sharing.len() {
-        sharing[i] = id % 0x10000;
+    // The machine takes what it is lent, and there are no channels.
+    #[test]
+    fn starts(rt: HostRuntime) -> Result<(), Fail> {
+        let board = Board {
+            tiles: 2,
+            pages: 0x0201,
+        };
+        let mut system = System::new(rt.alloc(), board)?;
+        let answered = system.carry_out(&Statement::Wiring).ok_or("no answer")?;
+        assert!(rt; matches!(answered.outcome, Outcome::Yes));
+        Ok(())
     }
 }

@@ -4,12 +4,10 @@ use mathlib.Core.Bool.{Bool, true, false, cond}
 use mathlib.Core.List.{List}
 use mathlib.Core.Logic.{◌≢◌}
 use mathlib.Core.Path.{◌≡◌, refl, fun_ext}
-use native.Mathlib.Omega.{arith}
 use native.Mathlib.Decide.{ℕ_discrete}
-use borrow.Author.Tests.{eqb-true, eqb-false, leb-false, lt-leb}
-use lib.Dec.{eqb, leb}
+use borrow.Author.Tests.{eqb-true, eqb-false, ltb-true, lt-ltb}
+use lib.Dec.{eqb, ltb}
 use lib.ListN.{length}
-use Rattle.numbers.specs.Choice.{◌gives◌else◌}
 use Rattle.bits.proofs.SearchLaws.{all_at, all_true}
 use Rattle.board.specs.declared.Board.{Board}
 use Rattle.endpoint.specs.Endpoint.{fields_of, words_of}
@@ -58,17 +56,17 @@ view-stored ws q m e l ok = fun_ext (λ j. at j (ℕ_discrete j q))
 
 -- an endpoint that has a number below 64 stands at its place
 pub look : (t : Table) (tile ep : ℕ) → ep < 64 → endpoint_at t tile ep ≡ t (place tile ep)
-unfolding endpoint_at ◌gives◌else◌
-look t tile ep l = rw (lt-leb 64 ep l)
+unfolding endpoint_at
+look t tile ep l = rw (lt-ltb ep 64 l)
 
 -- an endpoint that is not INVALID was read at a number below 64
 pub live : (t : Table) (tile ep : ℕ) → is_invalid (endpoint_at t tile ep) ≡ false → ep < 64
-unfolding endpoint_at ◌gives◌else◌
-live t tile ep h = go (leb 64 ep) refl h
+unfolding endpoint_at
+live t tile ep h = go (ltb ep 64) refl h
   where
-    go : (b : Bool) → leb 64 ep ≡ b → is_invalid (b gives Invalid else t (place tile ep)) ≡ false → ep < 64
-    go true e k = let z : ◌≡◌ {A = ℕ} 0 1 = cc in absurd (omega arith)
-    go false e k = leb-false 64 ep e
+    go : (b : Bool) → ltb ep 64 ≡ b → is_invalid (cond b (t (place tile ep)) Invalid) ≡ false → ep < 64
+    go true e k = ltb-true ep 64 e
+    go false e k = absurd (cc)
 
 -- ---- a good table
 module _ (b : Board) (ws : List ℕ) (good : good_table b ws ≡ true) where

@@ -1,18 +1,15 @@
 -- What a C caller gets: the number of the answer, and all that it lent, as they are afterwards. Each is a function of what the
 -- library's call comes to, with document 01's number for the answer. A refusal changes nothing.
-use Rattle.std.specs.Prelude.{ℕ, ◌&&◌, List, [], ◌∷◌, eqb, length}
-use Rattle.numbers.specs.Choice.{◌gives◌else◌}
+use Rattle.std.specs.Prelude.{ℕ, Bool, true, false, ◌&&◌, List, [], ◌∷◌, Result, Ok, Err, if◌then◌else◌, eqb, length}
 use Rattle.answers.specs.Answers.{code_of, number_of}
+use Rattle.answers.specs.declared.Error.{Error}
 use Rattle.answers.specs.declared.Error.TheVariants.{BadMachine}
 use Rattle.endpoint.specs.Turning.{unpack_of}
 use Rattle.endpoint.specs.declared.Words.{Words}
-use Rattle.endpoint.specs.declared.Unpacked.{Unpacked}
-use Rattle.endpoint.specs.declared.Packed.{Packed}
+use Rattle.endpoint.specs.declared.Endpoint.{Endpoint}
 use Rattle.sharing.specs.declared.Waiting.{Waiting}
 use Rattle.machine.specs.Machine.{Left}
-use Rattle.machine.specs.declared.Waits.{Waits}
 use Rattle.command.specs.declared.Registers.{Registers}
-use Rattle.wiring.specs.declared.Wiring.{Wiring}
 use Rattle.lists.specs.Fields.{field_values, pack_list}
 
 -- ---- what the caller passes, as the library takes it
@@ -37,10 +34,10 @@ unfoldable pub in_c : Left → Returned
 in_c o = returned (number_of o.completion.answer) o.completion.arg1 o.words o.sharing o.bytes
 
 -- ---- the wiring check: 1 for yes and 0 for no
-abbrev pub wiring_in_c : Wiring → ℕ
-wiring_in_c Wiring.Yes = 1
-wiring_in_c Wiring.No = 0
-wiring_in_c (Wiring.Refused e) = code_of e
+abbrev pub wiring_in_c : Result Bool Error → ℕ
+wiring_in_c (Ok true) = 1
+wiring_in_c (Ok false) = 0
+wiring_in_c (Err e) = code_of e
 
 -- ---- words into fields, or back: the number, and the list that was lent for them
 pub record Turned : Type 0 where
@@ -55,28 +52,28 @@ turned n l = record { number = n; list = l }
 abbrev pub numbers_of : Waiting → List ℕ
 numbers_of w = w.count ∷ w.ep ∷ w.act ∷ []
 
-unfoldable pub waits_in_c : List ℕ → Waits → Turned
-waits_in_c l (Waits.So w) = turned 0 (numbers_of w)
-waits_in_c l (Waits.Refused e) = turned (code_of e) l
+unfoldable pub waits_in_c : List ℕ → Result Waiting Error → Turned
+waits_in_c l (Ok w) = turned 0 (numbers_of w)
+waits_in_c l (Err e) = turned (code_of e) l
 
-unfoldable pub waiting_in_c : List ℕ → Waits → Turned
-waiting_in_c l x = eqb (length l) 3 gives waits_in_c l x else turned (code_of BadMachine) l
+unfoldable pub waiting_in_c : List ℕ → Result Waiting Error → Turned
+waiting_in_c l x = if eqb (length l) 3 then waits_in_c l x else turned (code_of BadMachine) l
 
 -- the words w into a list, l before: BAD_MACHINE where it has not eleven numbers
-unfoldable pub fields_in_c : List ℕ → Unpacked → Turned
-fields_in_c l (Unpacked.Fields e) = turned 0 (field_values e)
-fields_in_c l (Unpacked.Refused x) = turned (code_of x) l
+unfoldable pub fields_in_c : List ℕ → Result Endpoint Error → Turned
+fields_in_c l (Ok e) = turned 0 (field_values e)
+fields_in_c l (Err x) = turned (code_of x) l
 
 unfoldable pub unpack_in_c : ℕ → Words → List ℕ → Turned
-unpack_in_c m w l = eqb (length l) 11 gives fields_in_c l (unpack_of m w) else turned (code_of BadMachine) l
+unpack_in_c m w l = if eqb (length l) 11 then fields_in_c l (unpack_of m w) else turned (code_of BadMachine) l
 
 -- the numbers l into three words, ws before: BAD_MACHINE for any other lengths
 abbrev pub list_of : Words → List ℕ
 list_of w = w.first ∷ w.second ∷ w.third ∷ []
 
-unfoldable pub words_in_c : List ℕ → Packed → Turned
-words_in_c ws (Packed.Words w) = turned 0 (list_of w)
-words_in_c ws (Packed.Refused x) = turned (code_of x) ws
+unfoldable pub words_in_c : List ℕ → Result Words Error → Turned
+words_in_c ws (Ok w) = turned 0 (list_of w)
+words_in_c ws (Err x) = turned (code_of x) ws
 
 unfoldable pub pack_in_c : ℕ → List ℕ → List ℕ → Turned
-pack_in_c m l ws = eqb (length l) 11 && eqb (length ws) 3 gives words_in_c ws (pack_list m l) else turned (code_of BadMachine) ws
+pack_in_c m l ws = if eqb (length l) 11 && eqb (length ws) 3 then words_in_c ws (pack_list m l) else turned (code_of BadMachine) ws

@@ -1,42 +1,62 @@
 // The answers of IDLE, of an opcode that no command has, and of the host's own calls.
-use crate::fields::{receiver, sender, with_msg_sz, with_slots};
-use crate::listed::p1_fields;
-use crate::output::{report, report_answer, say};
-use crate::stage::{
-    BOARD, Command, IDLE, Memory, OTHER, READY, Table, call, host_refusals, run, stage_of,
-};
-use answers::Answer;
+use crate::listed::P1;
+use crate::stage::{BOARD, Case, Host, SENDER, UNUSED, host_refusals, report, run};
 use board::Board;
-use command::Registers;
-use endpoint::{Endpoint, Packed, Unpacked, Words};
+use endpoint::{Endpoint, ReceiveFields, SendFields, Words};
+use fixtures::endpoints::RECEIVER;
+use fixtures::opcode::Opcode;
 use std::io::{self, Write};
 
 // ---- commands that look at no endpoint
 
-// A command with every register zero.
-fn plain(opcode: u64) -> Command {
-    let a = Registers {
-        arg0: 0,
-        addr: 0,
-        size: 0,
-        arg1: 0,
+fn no_endpoint_cases<W: Write>(
+    out: &mut W,
+    opcode: Opcode,
+    what: &'static str,
+    should: u32,
+) -> io::Result<()> {
+    let sound = Case::of(opcode, Endpoint::Invalid, UNUSED);
+    run(out, &host_refusals(sound))?;
+    let only = Case {
+        what,
+        should,
+        ..sound
     };
-    call(opcode, a)
+    run(out, &[only])
 }
 
 pub fn idle_cases<W: Write>(out: &mut W) -> io::Result<()> {
-    let s = stage_of(Endpoint::Invalid);
-    host_refusals(out, s, plain(IDLE))?;
-    run(out, b"accepted", 0, s, plain(IDLE))
+    no_endpoint_cases(out, Opcode::Idle, "accepted", 0)
 }
 
 pub fn other_opcode_cases<W: Write>(out: &mut W) -> io::Result<()> {
-    let s = stage_of(Endpoint::Invalid);
-    host_refusals(out, s, plain(OTHER))?;
-    run(out, b"no command has it", 15, s, plain(OTHER))
+    no_endpoint_cases(out, Opcode::Other, "no command has it", 15)
 }
 
-// ---- configure and invalidate
+// ---- the host's own calls
+
+// A call with what it is given, and the number that document 01 gives for its answer, in figures as in a `Case`.
+#[derive(Clone, Copy)]
+struct Given<T> {
+    what: &'static str,
+    should: u32,
+    given: T,
+}
+
+// The lines of a call's cases; `number` is that of its answer.
+fn run_given<W: Write, T: Copy, F: Fn(T) -> u32>(
+    out: &mut W,
+    call: &str,
+    cases: &[Given<T>],
+    number: F,
+) -> io::Result<()>
+    requires { F.IsAlwaysCallable number }
+{
+    for case in cases {
+        report(out, call, case.what, number(case.given), case.should)?;
+    }
+    Ok(())
+}
 
 // Which endpoint is meant, and with which board the host calls the machine.
 #[derive(Clone, Copy)]
@@ -79,116 +99,138 @@ const TYPE_4: Words = Words {
     third: 0,
 };
 
-// The answer to a configure on words and bytes that are zero.
-fn configured(words: &mut Table, mem: &Memory, p: Place, w: Words) -> Answer {
-    let board = p.board;
-    let sharing = [0u64; 134];
-    machine::configure(board, words, &sharing, mem, p.tile, p.ep, w)
+// The numbers of the answers on a host whose words, records and bytes are zero.
+fn configured(p: Place, w: Words) -> u32 {
+    let mut host = Host::new(p.board, [0, 0]);
+    answers::number(host.configure(p.tile, p.ep, w))
 }
 
-fn configure<W: Write>(
-    out: &mut W,
-    what: &[u8],
-    should: u64,
-    p: Place,
-    w: Words,
-) -> io::Result<()> {
-    let mut words = [0u64; 384];
-    let mem = [0u8; 16384];
-    let answer = configured(&mut words, &mem, p, w);
-    say(out, b"configure   ")?;
-    report_answer(out, what, answer, should)
+fn invalidated(p: Place) -> u32 {
+    let mut host = Host::new(p.board, [0, 0]);
+    answers::number(host.invalidate(p.tile, p.ep))
 }
+
+// What neither takes.
+const MISPLACED: [Given<Place>; 3] = [
+    Given {
+        what: "three tiles, two are lent",
+        should: 100,
+        given: Place {
+            board: THREE_TILES,
+            ..LAST
+        },
+    },
+    Given {
+        what: "tile 2",
+        should: 101,
+        given: Place { tile: 2, ..LAST },
+    },
+    Given {
+        what: "endpoint 64",
+        should: 102,
+        given: Place { ep: 64, ..LAST },
+    },
+];
+
+const CONFIGURED: [Given<Words>; 3] = [
+    Given {
+        what: "the type is 4",
+        should: 103,
+        given: TYPE_4,
+    },
+    Given {
+        what: "bit 54 of a send endpoint is set",
+        should: 103,
+        given: BIT_54,
+    },
+    Given {
+        what: "accepted, the words of P1",
+        should: 0,
+        given: P1_WORDS,
+    },
+];
 
 pub fn configure_cases<W: Write>(out: &mut W) -> io::Result<()> {
-    let p = LAST;
-    let w = P1_WORDS;
-    let board = THREE_TILES;
-    configure(
-        out,
-        b"three tiles, two are lent",
-        100,
-        Place { board, ..p },
-        w,
-    )?;
-    configure(out, b"tile 2", 101, Place { tile: 2, ..p }, w)?;
-    configure(out, b"endpoint 64", 102, Place { ep: 64, ..p }, w)?;
-    configure(out, b"the type is 4", 103, p, TYPE_4)?;
-    configure(out, b"bit 54 of a send endpoint is set", 103, p, BIT_54)?;
-    configure(out, b"accepted, the words of P1", 0, p, w)
-}
-
-// The answer to an invalidate on words and bytes that are zero.
-fn invalidated(words: &mut Table, mem: &Memory, p: Place) -> Answer {
-    let board = p.board;
-    let sharing = [0u64; 134];
-    machine::invalidate(board, words, &sharing, mem, p.tile, p.ep)
-}
-
-fn invalidate<W: Write>(out: &mut W, what: &[u8], should: u64, p: Place) -> io::Result<()> {
-    let mut words = [0u64; 384];
-    let mem = [0u8; 16384];
-    let answer = invalidated(&mut words, &mem, p);
-    say(out, b"invalidate  ")?;
-    report_answer(out, what, answer, should)
+    run_given(out, "configure", &MISPLACED, |p| configured(p, P1_WORDS))?;
+    run_given(out, "configure", &CONFIGURED, |w| configured(LAST, w))
 }
 
 pub fn invalidate_cases<W: Write>(out: &mut W) -> io::Result<()> {
-    let p = LAST;
-    let board = THREE_TILES;
-    invalidate(out, b"three tiles, two are lent", 100, Place { board, ..p })?;
-    invalidate(out, b"tile 2", 101, Place { tile: 2, ..p })?;
-    invalidate(out, b"endpoint 64", 102, Place { ep: 64, ..p })?;
-    invalidate(out, b"accepted", 0, p)
+    run_given(out, "invalidate", &MISPLACED, invalidated)?;
+    let accepted = Given {
+        what: "accepted",
+        should: 0,
+        given: LAST,
+    };
+    run_given(out, "invalidate", &[accepted], invalidated)
 }
 
-// ---- words into fields, and fields into words
+// ---- words into fields, and fields into words, where a tile has that much memory
 
-// Words into fields, where M is `memory`.
-fn unpack<W: Write>(
-    out: &mut W,
-    what: &[u8],
-    should: u64,
-    memory: u64,
-    w: Words,
-) -> io::Result<()> {
-    let came = match endpoint::unpack(memory, w) {
-        Unpacked::Fields(_) => 0,
-        Unpacked::Refused(e) => answers::code(e) as u64,
-    };
-    say(out, b"into fields ")?;
-    report(out, what, came, should)
+fn unpacked((memory, w): (u64, Words)) -> u32 {
+    answers::number(endpoint::unpack(memory, w).map(|_| ()))
 }
 
 pub fn unpack_cases<W: Write>(out: &mut W) -> io::Result<()> {
-    let w = P1_WORDS;
-    unpack(out, b"M is 6144, no multiple of 4096", 100, 6144, w)?;
-    unpack(out, b"the type is 4", 103, 8192, TYPE_4)?;
-    unpack(out, b"bit 54 of a send endpoint is set", 103, 8192, BIT_54)?;
-    unpack(out, b"accepted, the words of P1", 0, 8192, w)
+    let cases = [
+        Given {
+            what: "M is 6144, no multiple of 4096",
+            should: 100,
+            given: (6144, P1_WORDS),
+        },
+        Given {
+            what: "the type is 4",
+            should: 103,
+            given: (8192, TYPE_4),
+        },
+        Given {
+            what: "bit 54 of a send endpoint is set",
+            should: 103,
+            given: (8192, BIT_54),
+        },
+        Given {
+            what: "accepted, the words of P1",
+            should: 0,
+            given: (8192, P1_WORDS),
+        },
+    ];
+    run_given(out, "into fields", &cases, unpacked)
 }
 
-// Fields into words, where M is `memory`.
-fn pack<W: Write>(
-    out: &mut W,
-    what: &[u8],
-    should: u64,
-    memory: u64,
-    e: Endpoint,
-) -> io::Result<()> {
-    let came = match endpoint::pack(memory, e) {
-        Packed::Words(_) => 0,
-        Packed::Refused(e) => answers::code(e) as u64,
-    };
-    say(out, b"into words  ")?;
-    report(out, what, came, should)
+fn packed((memory, e): (u64, Endpoint)) -> u32 {
+    answers::number(endpoint::pack(memory, e).map(|_| ()))
 }
 
 pub fn pack_cases<W: Write>(out: &mut W) -> io::Result<()> {
-    let s = with_msg_sz(sender(READY), 64);
-    let r = with_slots(receiver(), 6);
-    pack(out, b"M is 69632, above 65536", 100, 69632, p1_fields())?;
-    pack(out, b"msg_sz is 64", 103, 8192, Endpoint::Send(s))?;
-    pack(out, b"slots is 6", 103, 8192, Endpoint::Receive(r))?;
-    pack(out, b"accepted, the fields of P1", 0, 8192, p1_fields())
+    let s = SendFields {
+        msg_sz: 64,
+        ..SENDER
+    };
+    let r = ReceiveFields {
+        slots: 6,
+        ..RECEIVER
+    };
+    let cases = [
+        Given {
+            what: "M is 69632, above 65536",
+            should: 100,
+            given: (69632, P1),
+        },
+        Given {
+            what: "msg_sz is 64",
+            should: 103,
+            given: (8192, Endpoint::Send(s)),
+        },
+        Given {
+            what: "slots is 6",
+            should: 103,
+            given: (8192, Endpoint::Receive(r)),
+        },
+        Given {
+            what: "accepted, the fields of P1",
+            should: 0,
+            given: (8192, P1),
+        },
+    ];
+    run_given(out, "into words", &cases, packed)
 }

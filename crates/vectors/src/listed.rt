@@ -1,174 +1,191 @@
 // Document 01, "Numbers on both sides": P1 to P10.
 ghost use Rattle.std.specs.Prelude.{◌≤◌};
 
-use crate::fields::{four_slots, sender};
-use crate::output::{decimal, say};
-use crate::stage::{ACK_MSG, FETCH, Memory, READY, SEND, Table, call, play, stage_of};
-use bits::Found;
+use crate::stage::{Case, SENDER, UNUSED};
 use command::Registers;
-use endpoint::{Endpoint, Packed, SendFields, Words};
+use endpoint::{Endpoint, ReceiveFields, SendFields};
+use fixtures::endpoints::RECEIVER;
+use fixtures::opcode::Opcode;
+use std::fmt::Display;
 use std::io::{self, Write};
+
+// A number's line: what it is, what came, and what the document says.
+fn line<W: Write, C: Display + Drop>(
+    out: &mut W,
+    what: &str,
+    came: C,
+    should: &str,
+) -> io::Result<()> {
+    writeln!(out, "{what} {came} should be {should}")
+}
 
 // ---- P1
 
-fn words<W: Write>(out: &mut W, w: Words) -> io::Result<()> {
-    let Words {
-        first,
-        second,
-        third,
-    } = w;
-    write!(out, "{first:016x} {second:016x} {third:016x}")
-}
-
-fn packed<W: Write>(out: &mut W, p: Packed) -> io::Result<()> {
-    match p {
-        Packed::Words(w) => words(out, w),
-        Packed::Refused(e) => decimal(out, answers::code(e) as u64),
-    }
-}
-
 // The fields of P1.
-pub fn p1_fields() -> Endpoint {
-    Endpoint::Send(SendFields {
-        act: 5,
-        cur_crd: 2,
-        max_crd: 2,
-        msg_sz: 8,
-        crd_ep: 65535,
-        reply: false,
-        tgt_ep: 7,
-        tgt_tile: 3,
-        tgt_chip: 0,
-        label: 0,
-    })
-}
+pub const P1: Endpoint = Endpoint::Send(SendFields {
+    tgt_tile: 3,
+    ..SENDER
+});
 
 fn p1<W: Write>(out: &mut W) -> io::Result<()> {
-    say(out, b"P1 words ")?;
-    packed(out, endpoint::pack(4096, p1_fields()))?;
-    say(
-        out,
-        b" should be 001fffe404100029 0000000000030007 0000000000000000\n",
-    )
+    let should = "001fffe404100029 0000000000030007 0000000000000000";
+    match endpoint::pack(4096, P1) {
+        Ok(w) => {
+            let (first, second, third) = (w.first, w.second, w.third);
+            line(
+                out,
+                "P1 words",
+                format_args!("{first:016x} {second:016x} {third:016x}"),
+                should,
+            )
+        }
+        Err(e) => line(out, "P1 words", e.code(), should),
+    }
 }
 
 // ---- P2 to P6
 
-// The free slot among four.
-fn free<W: Write>(out: &mut W, occupied: u32, wpos: u32) -> io::Result<()>
+// The line of the free slot among four.
+fn free<W: Write>(out: &mut W, what: &str, occupied: u32, wpos: u32, should: &str) -> io::Result<()>
     requires { wpos ≤ 4 }
 {
     match bits::find_slot(occupied, wpos, 2, false) {
-        Found::At { slot, far: _ } => decimal(out, slot as u64),
-        Found::Nothing => say(out, b"none"),
+        Some(slot) => line(out, what, slot.index, should),
+        None => line(out, what, "none", should),
     }
 }
+
+// A search for a free slot among four.
+#[derive(Clone, Copy)]
+struct Search {
+    what: &'static str,
+    occupied: u32,
+    wpos: u32,
+    should: &'static str,
+    ghost within: { wpos ≤ 4 },
+}
+
+const SEARCHES: [Search; 5] = [
+    Search {
+        what: "P2 free slot for (1011b, 0)",
+        occupied: 0b1011,
+        wpos: 0,
+        should: "2",
+    },
+    Search {
+        what: "P3 free slot for (0101b, 3)",
+        occupied: 0b0101,
+        wpos: 3,
+        should: "3",
+    },
+    Search {
+        what: "P4 free slot for (1000b, 3)",
+        occupied: 0b1000,
+        wpos: 3,
+        should: "0",
+    },
+    Search {
+        what: "P5 free slot for (0, 4)",
+        occupied: 0,
+        wpos: 4,
+        should: "0",
+    },
+    Search {
+        what: "P6 free slot for (1111b, 1)",
+        occupied: 0b1111,
+        wpos: 1,
+        should: "none",
+    },
+];
 
 fn p2_to_p6<W: Write>(out: &mut W) -> io::Result<()> {
-    say(out, b"P2 free slot for (1011b, 0) ")?;
-    free(out, 11, 0)?;
-    say(out, b" should be 2\nP3 free slot for (0101b, 3) ")?;
-    free(out, 5, 3)?;
-    say(out, b" should be 3\nP4 free slot for (1000b, 3) ")?;
-    free(out, 8, 3)?;
-    say(out, b" should be 0\nP5 free slot for (0, 4) ")?;
-    free(out, 0, 4)?;
-    say(out, b" should be 0\nP6 free slot for (1111b, 1) ")?;
-    free(out, 15, 1)?;
-    say(out, b" should be none\n")
-}
-
-// ---- P7
-
-// The registers of a command whose ARG_1 is 0.
-fn registers(arg0: u64, addr: u64, size: u64) -> Registers {
-    Registers {
-        arg0,
-        addr,
-        size,
-        arg1: 0,
+    for s in &SEARCHES[..] {
+        free(out, s.what, s.occupied, s.wpos, s.should)?;
     }
+    Ok(())
 }
 
-// ARG_1 and rpos after a FETCH.
-fn fetched<W: Write>(out: &mut W, words: &mut Table, mem: &mut Memory) -> io::Result<()> {
-    let e = Endpoint::Receive(four_slots(5, 1));
-    let c = call(FETCH, registers(0, 0, 0));
-    let done = play(out, words, mem, stage_of(e), c)?;
-    let Endpoint::Receive(r) = table::endpoint_at(words, 0, 4) else {
-        return Ok(());
+// ---- P7 to P10
+
+// The case of a command on four slots of 256 bytes with no reply range, each slot occupied.
+fn on_four_slots(opcode: Opcode, unread: u32, rpos: u8, arg0: u64) -> Case {
+    let r = ReceiveFields {
+        rpl_eps: 65535,
+        slots: 2,
+        rpos,
+        occupied: 0b1111,
+        unread,
+        ..RECEIVER
     };
-    decimal(out, done.arg1)?;
-    say(out, b" ")?;
-    decimal(out, r.rpos as u64)
+    let a = Registers { arg0, ..UNUSED };
+    Case::of(opcode, Endpoint::Receive(r), a)
 }
 
 fn p7<W: Write>(out: &mut W) -> io::Result<()> {
-    let mut words = [0u64; 384];
-    let mut mem = [0u8; 16384];
-    say(
-        out,
-        b"P7 ARG_1 and rpos after FETCH for (unread 0101b, rpos 1) ",
-    )?;
-    fetched(out, &mut words, &mut mem)?;
-    say(out, b" should be 512 3\n")
+    let what = "P7 ARG_1 and rpos after FETCH for (unread 0101b, rpos 1)";
+    let (answered, host) = on_four_slots(Opcode::Fetch, 0b0101, 1, 0).play()?;
+    let arg1 = answered.arg1;
+    let rpos = host.receiver(0, 4).map_or(0, |r| r.rpos);
+    line(out, what, format_args!("{arg1} {rpos}"), "512 3")
 }
 
-// ---- P8 to P10
-
-// The answer to a command of tile 0 on its endpoint 4, which is e.
-fn answered<W: Write>(out: &mut W, e: Endpoint, opcode: u64, a: Registers) -> io::Result<()> {
-    let mut words = [0u64; 384];
-    let mut mem = [0u8; 16384];
-    let done = play(out, &mut words, &mut mem, stage_of(e), call(opcode, a))?;
-    let answer = done.answer;
-    decimal(out, answers::number(answer) as u64)
+// A SEND by a send endpoint whose msg_sz is 8.
+#[derive(Clone, Copy)]
+struct Sent {
+    what: &'static str,
+    addr: u64,
+    size: u64,
+    should: &'static str,
 }
 
-// The answer to a SEND by a send endpoint whose msg_sz is 8.
-fn sent<W: Write>(out: &mut W, addr: u64, size: u64) -> io::Result<()> {
-    let e = Endpoint::Send(sender(READY));
-    answered(out, e, SEND, registers(65535, addr, size))
-}
+const SENT: [Sent; 4] = [
+    Sent {
+        what: "P8 answer for (msg_sz 8, size 224)",
+        addr: 0,
+        size: 224,
+        should: "0",
+    },
+    Sent {
+        what: "P8 answer for (msg_sz 8, size 225)",
+        addr: 0,
+        size: 225,
+        should: "9",
+    },
+    Sent {
+        what: "P9 answer for (address 0x1ff0, size 16)",
+        addr: 0x1FF0,
+        size: 16,
+        should: "0",
+    },
+    Sent {
+        what: "P9 answer for (address 0x1ff0, size 17)",
+        addr: 0x1FF0,
+        size: 17,
+        should: "22",
+    },
+];
 
 fn p8_and_p9<W: Write>(out: &mut W) -> io::Result<()> {
-    say(out, b"P8 answer for (msg_sz 8, size 224) ")?;
-    sent(out, 0, 224)?;
-    say(out, b" should be 0\nP8 answer for (msg_sz 8, size 225) ")?;
-    sent(out, 0, 225)?;
-    say(
-        out,
-        b" should be 9\nP9 answer for (address 0x1ff0, size 16) ",
-    )?;
-    sent(out, 0x1FF0, 16)?;
-    say(
-        out,
-        b" should be 0\nP9 answer for (address 0x1ff0, size 17) ",
-    )?;
-    sent(out, 0x1FF0, 17)?;
-    say(out, b" should be 22\n")
+    for s in &SENT {
+        let a = Registers {
+            arg0: 65535,
+            addr: s.addr,
+            size: s.size,
+            arg1: 0,
+        };
+        let (answered, _) = Case::of(Opcode::Send, Endpoint::Send(SENDER), a).play()?;
+        line(out, s.what, answered.number, s.should)?;
+    }
+    Ok(())
 }
 
-// The slot that ACK_MSG frees where all four are occupied.
-fn freed<W: Write>(out: &mut W, words: &mut Table, mem: &mut Memory, arg0: u64) -> io::Result<()> {
-    let e = Endpoint::Receive(four_slots(0, 0));
-    let c = call(ACK_MSG, registers(arg0, 0, 0));
-    play(out, words, mem, stage_of(e), c)?;
-    let Endpoint::Receive(r) = table::endpoint_at(words, 0, 4) else {
-        return Ok(());
-    };
-    free(out, r.occupied, 0)
-}
-
+// The slot that ACK_MSG frees is the free one.
 fn p10<W: Write>(out: &mut W) -> io::Result<()> {
-    let mut words = [0u64; 384];
-    let mut mem = [0u8; 16384];
-    let e = Endpoint::Receive(four_slots(0, 0));
-    say(out, b"P10 slot for (arg0 1023) ")?;
-    freed(out, &mut words, &mut mem, 1023)?;
-    say(out, b" should be 3\nP10 answer for (arg0 1024) ")?;
-    answered(out, e, ACK_MSG, registers(1024, 0, 0))?;
-    say(out, b" should be 12\n")
+    let (_, host) = on_four_slots(Opcode::AckMsg, 0, 0, 1023).play()?;
+    let occupied = host.receiver(0, 4).map_or(0, |r| r.occupied);
+    free(out, "P10 slot for (arg0 1023)", occupied, 0, "3")?;
+    let (answered, _) = on_four_slots(Opcode::AckMsg, 0, 0, 1024).play()?;
+    line(out, "P10 answer for (arg0 1024)", answered.number, "12")
 }
 
 pub fn listed_numbers<W: Write>(out: &mut W) -> io::Result<()> {

@@ -6,11 +6,9 @@
 use std::io::{self, Write};
 
 mod access_cases;
-mod fields;
 mod host_cases;
 mod listed;
 mod message_cases;
-mod output;
 mod slot_cases;
 mod stage;
 

@@ -1,234 +1,268 @@
 // The answers of SEND and REPLY.
-use crate::fields::{
-    foreign_receive, foreign_send, receiver, replier, sender, with_crd_ep, with_cur_crd,
-    with_masks, with_msg_sz, with_reply, with_rpl_eps, with_tgt_chip, with_tgt_tile,
-};
+use crate::slot_cases::named_slot_cases;
 use crate::stage::{
-    FULL, GONE, PAST, READY, REPLY, SEND, SMALL, Stage, call, endpoint_missing, host_refusals, run,
-    stage_of,
+    Case, FULL, GONE, PAST, SENDER, SMALL, UNUSED, endpoint_missing, host_refusals, run,
 };
 use command::Registers;
 use endpoint::{Endpoint, ReceiveFields, SendFields};
+use fixtures::endpoints::RECEIVER;
+use fixtures::opcode::Opcode;
 use std::io::{self, Write};
+
+// ---- what both ask
+
+impl Case {
+    // The same with s as the send endpoint through which the message goes: that of a SEND acts, that of a REPLY is for replies.
+    fn through(self, s: SendFields) -> Case {
+        let endpoint = Endpoint::Send(s);
+        match self.opcode {
+            Opcode::Reply => Case {
+                reply: endpoint,
+                ..self
+            },
+            _ => Case {
+                acting: endpoint,
+                ..self
+            },
+        }
+    }
+}
+
+// The message: its length, and where it starts. s is the sound send endpoint.
+fn message_cases(sound: Case, s: SendFields) -> [Case; 4] {
+    [
+        Case {
+            what: "msg_sz is 12",
+            should: 19,
+            ..sound.through(SendFields { msg_sz: 12, ..s })
+        },
+        Case {
+            what: "225 bytes, msg_sz is 8",
+            should: 9,
+            ..sound.with_bytes(0, 225)
+        },
+        Case {
+            what: "the address is 8",
+            should: 23,
+            ..sound.with_bytes(8, 16)
+        },
+        Case {
+            what: "17 bytes across a page",
+            should: 22,
+            ..sound.with_bytes(4080, 17)
+        },
+    ]
+}
+
+// The bytes outside the tile's memory.
+fn range_cases(sound: Case) -> [Case; 2] {
+    [
+        Case {
+            what: "16 bytes from M on",
+            should: 14,
+            ..sound.with_bytes(8192, 16)
+        },
+        Case {
+            what: "no bytes, from M + 16 on",
+            should: 14,
+            ..sound.with_bytes(8208, 0)
+        },
+    ]
+}
+
+fn delivery_cases(sound: Case, s: SendFields) -> [Case; 6] {
+    [
+        Case {
+            what: "the target is on chip 1",
+            should: 21,
+            ..sound.through(SendFields { tgt_chip: 1, ..s })
+        },
+        Case {
+            what: "the target is on tile 2",
+            should: 21,
+            ..sound.through(SendFields { tgt_tile: 2, ..s })
+        },
+        Case {
+            what: "the target is INVALID",
+            should: 6,
+            ..sound.through(SendFields { tgt_ep: GONE, ..s })
+        },
+        Case {
+            what: "16 bytes and a header, slots of 32",
+            should: 16,
+            ..sound.through(SendFields { tgt_ep: SMALL, ..s })
+        },
+        Case {
+            what: "the target's reply range ends at 65",
+            should: 17,
+            ..sound.through(SendFields { tgt_ep: PAST, ..s })
+        },
+        Case {
+            what: "the target has no free slot",
+            should: 7,
+            ..sound.through(SendFields { tgt_ep: FULL, ..s })
+        },
+    ]
+}
 
 // ---- SEND
 
 // A request for which no reply is wanted.
-fn request(addr: u64, size: u64) -> Registers {
-    Registers {
-        arg0: 65535,
-        addr,
-        size,
-        arg1: 77,
-    }
-}
+const REQUEST: Registers = Registers {
+    arg0: 65535,
+    addr: 0,
+    size: 16,
+    arg1: 77,
+};
 
 // A request whose reply is to come to endpoint arg0.
 fn request_with(arg0: u64) -> Registers {
-    Registers {
-        arg0,
-        ..request(0, 16)
-    }
+    Registers { arg0, ..REQUEST }
 }
 
-// A SEND by the send endpoint s.
-fn send<W: Write>(
-    out: &mut W,
-    what: &[u8],
-    should: u64,
-    s: SendFields,
-    a: Registers,
-) -> io::Result<()> {
-    run(
-        out,
-        what,
-        should,
-        stage_of(Endpoint::Send(s)),
-        call(SEND, a),
-    )
+fn send_endpoint_cases(sound: Case) -> [Case; 2] {
+    [
+        Case {
+            what: "the endpoint has a reply mark",
+            should: 5,
+            acting: Endpoint::Send(SendFields {
+                reply: true,
+                ..SENDER
+            }),
+            ..sound
+        },
+        Case {
+            what: "the endpoint is activity 6's",
+            should: 4,
+            acting: Endpoint::Send(SendFields { act: 6, ..SENDER }),
+            ..sound
+        },
+    ]
+}
+
+// The endpoint that is to get the reply.
+fn wanted_reply_cases(sound: Case) -> [Case; 2] {
+    [
+        Case {
+            what: "arg0 names an INVALID endpoint",
+            should: 3,
+            registers: request_with(5),
+            ..sound
+        },
+        Case {
+            what: "arg0 is 64",
+            should: 3,
+            registers: request_with(64),
+            ..sound
+        },
+    ]
 }
 
 pub fn send_cases<W: Write>(out: &mut W) -> io::Result<()> {
-    let s = sender(READY);
-    let a = request(0, 16);
-    host_refusals(out, stage_of(Endpoint::Send(s)), call(SEND, a))?;
-    // the endpoint
-    endpoint_missing(out, 2, call(SEND, a))?;
-    send(
-        out,
-        b"the endpoint has a reply mark",
-        5,
-        with_reply(s, true),
-        a,
-    )?;
-    send(out, b"the endpoint is activity 6's", 4, foreign_send(s), a)?;
-    send(out, b"msg_sz is 12", 19, with_msg_sz(s, 12), a)?;
-    // the message
-    send(out, b"225 bytes, msg_sz is 8", 9, s, request(0, 225))?;
-    send(out, b"the address is 8", 23, s, request(8, 16))?;
-    send(out, b"17 bytes across a page", 22, s, request(4080, 17))?;
-    send(
-        out,
-        b"arg0 names an INVALID endpoint",
-        3,
-        s,
-        request_with(5),
-    )?;
-    send(out, b"arg0 is 64", 3, s, request_with(64))?;
-    send(out, b"16 bytes from M on", 14, s, request(8192, 16))?;
-    send(out, b"no bytes, from M + 16 on", 14, s, request(8208, 0))?;
-    send(out, b"no credit is left", 10, with_cur_crd(s, 0), a)?;
-    // the delivery
-    send(out, b"the target is on chip 1", 21, with_tgt_chip(s, 1), a)?;
-    send(out, b"the target is on tile 2", 21, with_tgt_tile(s, 2), a)?;
-    send(out, b"the target is INVALID", 6, sender(GONE), a)?;
-    send(
-        out,
-        b"16 bytes and a header, slots of 32",
-        16,
-        sender(SMALL),
-        a,
-    )?;
-    send(
-        out,
-        b"the target's reply range ends at 65",
-        17,
-        sender(PAST),
-        a,
-    )?;
-    send(out, b"the target has no free slot", 7, sender(FULL), a)?;
-    // no check is broken
-    send(out, b"accepted, no reply is wanted", 0, s, a)?;
-    send(out, b"accepted, a reply is wanted", 0, s, request_with(6))
+    let sound = Case::of(Opcode::Send, Endpoint::Send(SENDER), REQUEST);
+    run(out, &host_refusals(sound))?;
+    run(out, &endpoint_missing(sound, 2))?;
+    run(out, &send_endpoint_cases(sound))?;
+    run(out, &message_cases(sound, SENDER))?;
+    run(out, &wanted_reply_cases(sound))?;
+    run(out, &range_cases(sound))?;
+    let no_credit = Case {
+        what: "no credit is left",
+        should: 10,
+        acting: Endpoint::Send(SendFields {
+            cur_crd: 0,
+            ..SENDER
+        }),
+        ..sound
+    };
+    run(out, &[no_credit])?;
+    run(out, &delivery_cases(sound, SENDER))?;
+    let accepted = [
+        Case {
+            what: "accepted, no reply is wanted",
+            ..sound
+        },
+        Case {
+            what: "accepted, a reply is wanted",
+            registers: request_with(6),
+            ..sound
+        },
+    ];
+    run(out, &accepted)
 }
 
 // ---- REPLY
 
-// A reply to the message in slot 0.
-fn response(addr: u64, size: u64) -> Registers {
-    Registers {
-        arg0: 0,
-        addr,
-        size,
-        arg1: 0,
-    }
-}
+// It replies to tile 1's endpoint READY.
+const REPLIER: SendFields = SendFields {
+    reply: true,
+    ..SENDER
+};
 
-// A reply to the message in the slot that arg0 names.
-fn response_to(arg0: u64) -> Registers {
-    Registers {
-        arg0,
-        ..response(0, 16)
-    }
-}
-
-// The stage of a REPLY by the receive endpoint r, whose slot 0 has the send endpoint s as its reply endpoint.
-fn replying(r: ReceiveFields, s: SendFields) -> Stage {
-    Stage {
-        acting: Endpoint::Receive(r),
-        reply: Endpoint::Send(s),
-        stray: 0,
-    }
-}
-
-// A REPLY by the receive endpoint r; the reply endpoint is sound.
-fn reply_by<W: Write>(
-    out: &mut W,
-    what: &[u8],
-    should: u64,
-    r: ReceiveFields,
-    a: Registers,
-) -> io::Result<()> {
-    run(
-        out,
-        what,
-        should,
-        replying(r, replier(READY)),
-        call(REPLY, a),
-    )
-}
-
-// A REPLY through the reply endpoint s; the receive endpoint is sound, with a message in slot 0.
-fn reply_through<W: Write>(
-    out: &mut W,
-    what: &[u8],
-    should: u64,
-    s: SendFields,
-    a: Registers,
-) -> io::Result<()> {
-    let r = with_masks(receiver(), 1, 0);
-    run(out, what, should, replying(r, s), call(REPLY, a))
-}
-
-// The checks of the receive endpoint, and that there is a reply endpoint.
-fn reply_by_cases<W: Write>(out: &mut W) -> io::Result<()> {
-    let r = with_masks(receiver(), 1, 0);
-    let a = response(0, 16);
-    host_refusals(out, replying(r, replier(READY)), call(REPLY, a))?;
-    endpoint_missing(out, 3, call(REPLY, a))?;
-    reply_by(out, b"rpl_eps is 65535", 8, with_rpl_eps(r, 65535), a)?;
-    reply_by(
-        out,
-        b"the reply range ends at 65",
-        17,
-        with_rpl_eps(r, 63),
-        a,
-    )?;
-    reply_by(
-        out,
-        b"the endpoint is activity 6's",
-        4,
-        foreign_receive(r),
-        a,
-    )?;
-    reply_by(out, b"arg0 is 512, slot 2 of two", 12, r, response_to(512))?;
-    reply_by(out, b"slot 1 has no reply endpoint", 2, r, response_to(256))
-}
-
-// The checks of the reply endpoint, of the message and of the delivery.
-fn reply_through_cases<W: Write>(out: &mut W) -> io::Result<()> {
-    let s = replier(READY);
-    let a = response(0, 16);
-    reply_through(
-        out,
-        b"slot 0's endpoint has no mark",
-        5,
-        with_reply(s, false),
-        a,
-    )?;
-    reply_through(out, b"crd_ep is 64", 18, with_crd_ep(s, 64), a)?;
-    reply_through(out, b"msg_sz is 12", 19, with_msg_sz(s, 12), a)?;
-    // the message
-    reply_through(out, b"225 bytes, msg_sz is 8", 9, s, response(0, 225))?;
-    reply_through(out, b"the address is 8", 23, s, response(8, 16))?;
-    reply_through(out, b"17 bytes across a page", 22, s, response(4080, 17))?;
-    reply_through(out, b"16 bytes from M on", 14, s, response(8192, 16))?;
-    reply_through(out, b"no bytes, from M + 16 on", 14, s, response(8208, 0))?;
-    // the delivery
-    reply_through(out, b"the target is on chip 1", 21, with_tgt_chip(s, 1), a)?;
-    reply_through(out, b"the target is on tile 2", 21, with_tgt_tile(s, 2), a)?;
-    reply_through(out, b"the target is INVALID", 6, replier(GONE), a)?;
-    reply_through(
-        out,
-        b"16 bytes and a header, slots of 32",
-        16,
-        replier(SMALL),
-        a,
-    )?;
-    reply_through(
-        out,
-        b"the target's reply range ends at 65",
-        17,
-        replier(PAST),
-        a,
-    )?;
-    reply_through(out, b"the target has no free slot", 7, replier(FULL), a)?;
-    // no check is broken
-    reply_through(out, b"accepted, crd_ep is 65535", 0, s, a)?;
-    reply_through(out, b"accepted, crd_ep is 63", 0, with_crd_ep(s, 63), a)
+// The reply endpoint: that there is one, and that it is sound.
+fn reply_endpoint_cases(sound: Case) -> [Case; 3] {
+    [
+        Case {
+            what: "slot 1 has no reply endpoint",
+            should: 2,
+            registers: Registers {
+                arg0: 256,
+                ..sound.registers
+            },
+            ..sound
+        },
+        Case {
+            what: "slot 0's endpoint has no mark",
+            should: 5,
+            ..sound.through(SENDER)
+        },
+        Case {
+            what: "crd_ep is 64",
+            should: 18,
+            ..sound.through(SendFields {
+                crd_ep: 64,
+                ..REPLIER
+            })
+        },
+    ]
 }
 
 pub fn reply_cases<W: Write>(out: &mut W) -> io::Result<()> {
-    reply_by_cases(out)?;
-    reply_through_cases(out)
+    let r = ReceiveFields {
+        occupied: 1,
+        ..RECEIVER
+    };
+    let a = Registers { size: 16, ..UNUSED };
+    let sound = Case::of(Opcode::Reply, Endpoint::Receive(r), a).through(REPLIER);
+    run(out, &host_refusals(sound))?;
+    run(out, &endpoint_missing(sound, 3))?;
+    let disabled = Case {
+        what: "rpl_eps is 65535",
+        should: 8,
+        acting: Endpoint::Receive(ReceiveFields {
+            rpl_eps: 65535,
+            ..r
+        }),
+        ..sound
+    };
+    run(out, &[disabled])?;
+    run(out, &named_slot_cases(sound, r))?;
+    run(out, &reply_endpoint_cases(sound))?;
+    run(out, &message_cases(sound, REPLIER))?;
+    run(out, &range_cases(sound))?;
+    run(out, &delivery_cases(sound, REPLIER))?;
+    let accepted = [
+        Case {
+            what: "accepted, crd_ep is 65535",
+            ..sound
+        },
+        Case {
+            what: "accepted, crd_ep is 63",
+            ..sound.through(SendFields {
+                crd_ep: 63,
+                ..REPLIER
+            })
+        },
+    ];
+    run(out, &accepted)
 }

@@ -1,75 +1,98 @@
 // The answers of FETCH and ACK_MSG.
-use crate::fields::{foreign_receive, receiver, with_masks, with_rpl_eps};
-use crate::stage::{ACK_MSG, FETCH, call, endpoint_missing, host_refusals, run, stage_of};
+use crate::stage::{Case, UNUSED, endpoint_missing, host_refusals, run};
 use command::Registers;
 use endpoint::{Endpoint, ReceiveFields};
+use fixtures::endpoints::RECEIVER;
+use fixtures::opcode::Opcode;
 use std::io::{self, Write};
 
-// The registers. ACK_MSG looks at arg0, which names a slot, and at nothing else; FETCH at none.
-fn slot_at(arg0: u64) -> Registers {
-    Registers {
-        arg0,
-        addr: 0,
-        size: 0,
-        arg1: 0,
-    }
-}
-
-// A FETCH by the receive endpoint r.
-fn fetch<W: Write>(out: &mut W, what: &[u8], should: u64, r: ReceiveFields) -> io::Result<()> {
-    let e = Endpoint::Receive(r);
-    run(out, what, should, stage_of(e), call(FETCH, slot_at(0)))
-}
-
 pub fn fetch_cases<W: Write>(out: &mut W) -> io::Result<()> {
-    let r = with_masks(receiver(), 1, 1);
-    let c = call(FETCH, slot_at(0));
-    host_refusals(out, stage_of(Endpoint::Receive(r)), c)?;
-    endpoint_missing(out, 3, c)?;
-    fetch(out, b"the endpoint is activity 6's", 4, foreign_receive(r))?;
-    fetch(out, b"accepted, a message is unread", 0, r)?;
-    fetch(out, b"accepted, nothing is unread", 0, receiver())
+    let r = ReceiveFields {
+        occupied: 1,
+        unread: 1,
+        ..RECEIVER
+    };
+    let sound = Case::of(Opcode::Fetch, Endpoint::Receive(r), UNUSED);
+    run(out, &host_refusals(sound))?;
+    run(out, &endpoint_missing(sound, 3))?;
+    let cases = [
+        Case {
+            what: "the endpoint is activity 6's",
+            should: 4,
+            acting: Endpoint::Receive(ReceiveFields { act: 6, ..r }),
+            ..sound
+        },
+        Case {
+            what: "accepted, a message is unread",
+            ..sound
+        },
+        Case {
+            what: "accepted, nothing is unread",
+            acting: Endpoint::Receive(RECEIVER),
+            ..sound
+        },
+    ];
+    run(out, &cases)
 }
 
-// An ACK_MSG by the receive endpoint r.
-fn ack_msg<W: Write>(
-    out: &mut W,
-    what: &[u8],
-    should: u64,
-    r: ReceiveFields,
-    arg0: u64,
-) -> io::Result<()> {
-    let e = Endpoint::Receive(r);
-    run(out, what, should, stage_of(e), call(ACK_MSG, slot_at(arg0)))
+// What REPLY and ACK_MSG ask of the receive endpoint, sound as r, and of the slot that arg0 names.
+pub fn named_slot_cases(sound: Case, r: ReceiveFields) -> [Case; 3] {
+    [
+        Case {
+            what: "the reply range ends at 65",
+            should: 17,
+            acting: Endpoint::Receive(ReceiveFields { rpl_eps: 63, ..r }),
+            ..sound
+        },
+        Case {
+            what: "the endpoint is activity 6's",
+            should: 4,
+            acting: Endpoint::Receive(ReceiveFields { act: 6, ..r }),
+            ..sound
+        },
+        Case {
+            what: "arg0 is 512, slot 2 of two",
+            should: 12,
+            registers: Registers {
+                arg0: 512,
+                ..sound.registers
+            },
+            ..sound
+        },
+    ]
 }
 
+// ACK_MSG looks at arg0 and at no other register.
 pub fn ack_msg_cases<W: Write>(out: &mut W) -> io::Result<()> {
-    let r = with_masks(receiver(), 1, 0);
-    let c = call(ACK_MSG, slot_at(0));
-    host_refusals(out, stage_of(Endpoint::Receive(r)), c)?;
-    endpoint_missing(out, 3, c)?;
-    ack_msg(
-        out,
-        b"the reply range ends at 65",
-        17,
-        with_rpl_eps(r, 63),
-        0,
-    )?;
-    ack_msg(
-        out,
-        b"the endpoint is activity 6's",
-        4,
-        foreign_receive(r),
-        0,
-    )?;
-    ack_msg(out, b"arg0 is 512, slot 2 of two", 12, r, 512)?;
-    ack_msg(out, b"accepted, the slot is occupied", 0, r, 0)?;
-    ack_msg(out, b"accepted, the slot is free", 0, r, 256)?;
-    ack_msg(
-        out,
-        b"accepted, rpl_eps is 65535",
-        0,
-        with_rpl_eps(r, 65535),
-        0,
-    )
+    let r = ReceiveFields {
+        occupied: 1,
+        ..RECEIVER
+    };
+    let sound = Case::of(Opcode::AckMsg, Endpoint::Receive(r), UNUSED);
+    run(out, &host_refusals(sound))?;
+    run(out, &endpoint_missing(sound, 3))?;
+    run(out, &named_slot_cases(sound, r))?;
+    let accepted = [
+        Case {
+            what: "accepted, the slot is occupied",
+            ..sound
+        },
+        Case {
+            what: "accepted, the slot is free",
+            registers: Registers {
+                arg0: 256,
+                ..UNUSED
+            },
+            ..sound
+        },
+        Case {
+            what: "accepted, rpl_eps is 65535",
+            acting: Endpoint::Receive(ReceiveFields {
+                rpl_eps: 65535,
+                ..r
+            }),
+            ..sound
+        },
+    ];
+    run(out, &accepted)
 }

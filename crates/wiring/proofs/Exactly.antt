@@ -8,7 +8,7 @@ use native.Mathlib.Omega.{arith}
 use borrow.Author.Tests.{eqb-true, eqb-false, leb-true, leb-false, ltb-true, eq-eqb, ne_eqb, le-leb, lt-ltb, not-true}
 use lib.Dec.{eqb, leb, ltb}
 use lib.Pow.{pow_pos}
-use Rattle.numbers.specs.Choice.{◌gives◌else◌}
+use Rattle.std.specs.Prelude.{Ok, Err, if◌then◌else◌}
 use Rattle.numbers.proofs.TestLaws.{split_and}
 use Rattle.answers.specs.declared.Error.TheVariants.{BadMachine}
 use Rattle.bits.specs.Search.{all}
@@ -23,29 +23,22 @@ use Rattle.slots.specs.Slots.{slots_of}
 use Rattle.machine.specs.Machine.{machine_right}
 use Rattle.wiring.specs.Credits.{promised}
 use Rattle.wiring.specs.Sound.{beside, Receiver, Ranged, Sender, Sound}
-use Rattle.wiring.specs.Wiring.{whole, on_board, sender_sound, disjoint, clear_of, apart_from, bare_at, apart_at, range_sound, receiver_sound, endpoint_sound, sound_at, sound, wiring_of, YesExactly}
-use Rattle.wiring.specs.declared.Wiring.TheVariants.{Yes, No, Refused}
+use Rattle.wiring.specs.Wiring.{whole, on_board, sender_sound, disjoint, clear_of, apart_from, bare_at, apart_at, range_apart, range_sound, receiver_sound, endpoint_sound, sound_at, sound, wiring_of, YesExactly}
 use Rattle.wiring.proofs.Places.{clash}
 use Rattle.machine.proofs.Fitting.{is_receive_lem}
 
--- ---- choices and pairs of tests
-unless : (b c : Bool) → (b gives true else c) ≡ true → b ≡ false → c ≡ true
-unfolding ◌gives◌else◌
+-- ---- two tests
+unless : (b c : Bool) → b || c ≡ true → b ≡ false → c ≡ true
 unless true c h e = clash (cc)
 unless false c h e = h
-
-or_else : (b c : Bool) → (b ≡ false → c ≡ true) → (b gives true else c) ≡ true
-unfolding ◌gives◌else◌
-or_else true c h = refl
-or_else false c h = h refl
 
 either : (b c : Bool) → b || c ≡ true → (b ≡ true) ⊎ (c ≡ true)
 either true c h = inl refl
 either false c h = inr h
 
-of_either : (b c : Bool) → (b ≡ false → c ≡ true) → b || c ≡ true
-of_either true c h = refl
-of_either false c h = h refl
+or_else : (b c : Bool) → (b ≡ false → c ≡ true) → b || c ≡ true
+or_else true c h = refl
+or_else false c h = h refl
 
 both : (b c : Bool) → b ≡ true → c ≡ true → b && c ≡ true
 both b c p q = rw (p, q)
@@ -67,7 +60,7 @@ module _ (g h : ReceiveFields) where
 
   if_no_common : ((i j : ℕ) → i < slots_of g → j < slots_of h → g.rpl_eps + i ≢ h.rpl_eps + j) → disjoint g h ≡ true
   if_no_common far =
-      of_either (leb (a + m) b) (leb (b + k) a) (λ x. le-leb (b + k) a (go (dec_le (b + k) a) (leb-false (a + m) b x)))
+      or_else (leb (a + m) b) (leb (b + k) a) (λ x. le-leb (b + k) a (go (dec_le (b + k) a) (leb-false (a + m) b x)))
     where
       a : ℕ
       a = g.rpl_eps
@@ -137,19 +130,19 @@ module _ (n : ℕ) (t : Table) (ok : sound n t ≡ true) where
   record RangeFacts (q : ℕ) (g : ReceiveFields) : Type 0 where
     ends : g.rpl_eps + slots_of g ≤ 64
     bare : all (bare_at t q g) (slots_of g) ≡ true
-    far : all (apart_at t q g) 64 ≡ true
+    far : range_apart t q g ≡ true
 
   of_range : {q : ℕ} {g : ReceiveFields} → Ranged n t q g → RangeFacts q g
   unfolding range_sound
   of_range {q} {g} R =
       let h = unless (eqb g.rpl_eps 65535) _ (of_receiver R.at).range (ne_eqb g.rpl_eps 65535 R.has) in
-      let a = split_and (leb (g.rpl_eps + slots_of g) 64) (all (bare_at t q g) (slots_of g) && all (apart_at t q g) 64) h in
-      let b = split_and (all (bare_at t q g) (slots_of g)) (all (apart_at t q g) 64) a.1 in
+      let a = split_and (leb (g.rpl_eps + slots_of g) 64) (all (bare_at t q g) (slots_of g) && range_apart t q g) h in
+      let b = split_and (all (bare_at t q g) (slots_of g)) (range_apart t q g) a.1 in
       record { ends = leb-true (g.rpl_eps + slots_of g) 64 a.0; bare = b.0; far = b.1 }
 
   apart : {r r' : ℕ} {g g' : ReceiveFields} → Ranged n t r g → Ranged n t r' g' → r / 64 ≡ r' / 64 → r ≢ r'
       → (i i' : ℕ) → i < slots_of g → i' < slots_of g' → g.rpl_eps + i ≢ g'.rpl_eps + i'
-  unfolding apart_at apart_from clear_of
+  unfolding range_apart apart_at apart_from clear_of
   apart {r} {r'} {g} {g'} R R' tile d =
       let e : beside r (r' % 64) ≡ r' = omega arith in
       let here : apart_at t r g (r' % 64) ≡ true = all_at (apart_at t r g) 64 (of_range R).far (r' % 64) (omega arith) in
@@ -197,8 +190,8 @@ module _ (n : ℕ) (t : Table) (O : Sound n t) where
       )
 
   range_passes : (q : ℕ) (g : ReceiveFields) → Ranged n t q g
-      → (leb (g.rpl_eps + slots_of g) 64 && (all (bare_at t q g) (slots_of g) && all (apart_at t q g) 64)) ≡ true
-  unfolding apart_at apart_from clear_of
+      → (leb (g.rpl_eps + slots_of g) 64 && (all (bare_at t q g) (slots_of g) && range_apart t q g)) ≡ true
+  unfolding range_apart apart_at apart_from clear_of
   range_passes q g R =
       both (leb (g.rpl_eps + slots_of g) 64) _ (le-leb (g.rpl_eps + slots_of g) 64 (O.ends R))
       (both (all (bare_at t q g) (slots_of g)) _ (all_true (bare_at t q g) (slots_of g) (λ i l. ap is_invalid (O.bare R i l)))
@@ -234,14 +227,12 @@ module _ (n : ℕ) (t : Table) (O : Sound n t) where
       each q l (Memory m) e = refl
 
 -- ---- the answer to the host
-yes_if : (a b : Bool) → (a gives (b gives Yes else No) else Refused BadMachine) ≡ Yes → (a ≡ true) × (b ≡ true)
-unfolding ◌gives◌else◌
-yes_if true true h = (refl, refl)
-yes_if true false h = clash (cc)
+yes_if : (a b : Bool) → (if a then Ok b else Err BadMachine) ≡ Ok true → (a ≡ true) × (b ≡ true)
+yes_if true b h = (refl, cc)
 yes_if false b h = clash (cc)
 
 pub yes_exactly : YesExactly
-unfolding YesExactly wiring_of ◌gives◌else◌
+unfolding YesExactly wiring_of
 yes_exactly b ws sh bs = (
   (λ h. let p = yes_if (machine_right b ws sh bs) (sound b.tiles (view ws)) h in (p.0, is_sound b.tiles (view ws) p.1)),
   (λ p. rw (p.0, passes b.tiles (view ws) p.1)),

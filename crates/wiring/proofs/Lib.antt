@@ -2,5 +2,4 @@ pub mod Places
 pub mod SumLaws
 pub mod Right
 pub mod Exactly
-pub mod Flags
 pub mod Low

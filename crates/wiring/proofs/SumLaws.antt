@@ -1,9 +1,13 @@
 -- The laws of `sum`. Assumes nothing.
-use Prim.Native.Nat.{ℕ, zero, suc, ◌+◌, ◌≤◌, ◌<◌}
+use Prim.Native.Nat.{ℕ, zero, suc, ◌+◌, ◌*◌, ◌≤◌, ◌<◌}
 use mathlib.Core.Logic.{◌≢◌, ◌⊎◌, inl, inr}
-use mathlib.Core.Path.{◌≡◌, refl, ap, fun_ext}
+use mathlib.Core.Path.{◌≡◌, refl, ap, fun_ext, ◌∙◌}
 use native.Mathlib.Nat.{le_refl}
 use native.Mathlib.Omega.{arith}
+use Rattle.std.proofs.Common.{add-one, suc-mul}
+use Rattle.std.specs.List.{sum_by, range_with_len}
+use Rattle.std.proofs.lemmas.List.{map-id}
+use Rattle.std.proofs.lemmas.List.FromFn.{sum_by-map-range_with_len_more}
 use Rattle.wiring.specs.Sums.{sum}
 use Rattle.wiring.proofs.Places.{same?}
 
@@ -55,3 +59,17 @@ sum_lt (suc n) k f g l h s = go (same? n k) (λ l'. sum_lt n k f g l' (λ j l''.
     go : (n ≡ k) ⊎ (n ≢ k) → (k < n → sum n f < sum n g) → sum n f + f n < sum n g + g n
     go (inl e) ih = omega (arith, sum_le n f g (λ j l'. h j (omega arith)), rw (← e) at s)
     go (inr d) ih = omega (arith, ih (omega arith), h n (omega arith))
+
+-- ---- a sum as code adds it up
+sum_by_more : (f : ℕ → ℕ) (n : ℕ) → sum_by f (range_with_len 0 (n + 1)) ≡ sum_by f (range_with_len 0 n) + f n
+sum_by_more f n = simp map-id at (sum_by-map-range_with_len_more f (λ (k : ℕ). k) 0 n n (omega arith))
+
+pub summed : (f : ℕ → ℕ) (n : ℕ) → sum_by f (range_with_len 0 n) ≡ sum n f
+unfolding sum
+summed f zero = refl
+summed f (suc n) = rw add-one at (sum_by_more f n) ∙ rw (summed f n)
+
+pub sum_small : (n k : ℕ) (f : ℕ → ℕ) → ((j : ℕ) → f j ≤ k) → sum n f ≤ n * k
+unfolding sum
+sum_small zero k f h = omega arith
+sum_small (suc n) k f h = rw suc-mul (omega (arith, sum_small n k f h, h n))

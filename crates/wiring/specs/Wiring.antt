@@ -1,7 +1,7 @@
 -- Document 01, "Sound wiring", as a test of the table t of n tiles: it is true exactly where `Sound` holds. The wiring check gives
 -- BAD_MACHINE or yes or no.
-use Rattle.std.specs.Prelude.{ℕ, ◌+◌, ◌*◌, ◌<◌, Bool, true, not, ◌&&◌, ◌||◌, List, ◌↔◌, ◌≡◌, eqb, leb, ltb}
-use Rattle.numbers.specs.Choice.{◌gives◌else◌}
+use Rattle.std.specs.Prelude.{ℕ, ◌+◌, ◌*◌, ◌<◌, Bool, true, not, ◌&&◌, ◌||◌, List, Result, Ok, Err, if◌then◌else◌, ◌↔◌, ◌≡◌, eqb, leb, ltb}
+use Rattle.answers.specs.declared.Error.{Error}
 use Rattle.answers.specs.declared.Error.TheVariants.{BadMachine}
 use Rattle.bits.specs.Search.{all}
 use Rattle.board.specs.declared.Board.{Board}
@@ -15,8 +15,6 @@ use Rattle.slots.specs.Slots.{slots_of}
 use Rattle.machine.specs.Machine.{machine_right}
 use Rattle.wiring.specs.Credits.{promised}
 use Rattle.wiring.specs.Sound.{beside, Sound}
-use Rattle.wiring.specs.declared.Wiring.{Wiring}
-use Rattle.wiring.specs.declared.Wiring.TheVariants.{Yes, No, Refused}
 
 -- ---- a send endpoint: no reply mark, cur_crd equal to max_crd, at most 62
 abbrev pub whole : SendFields → Bool
@@ -35,7 +33,7 @@ disjoint g h = leb (g.rpl_eps + slots_of g) h.rpl_eps || leb (h.rpl_eps + slots_
 
 -- the range of h, if it has one, shares no endpoint with that of g
 unfoldable pub clear_of : ReceiveFields → ReceiveFields → Bool
-clear_of g h = eqb h.rpl_eps 65535 gives true else disjoint g h
+clear_of g h = eqb h.rpl_eps 65535 || disjoint g h
 
 -- nor does that of an endpoint of any kind: only a receive endpoint has one
 unfoldable pub apart_from : ReceiveFields → Endpoint → Bool
@@ -50,13 +48,16 @@ bare_at t q g i = is_invalid (t (beside q (g.rpl_eps + i)))
 
 -- endpoint e of the same tile is g itself or has a range apart from it
 unfoldable pub apart_at : Table → ℕ → ReceiveFields → ℕ → Bool
-apart_at t q g e = eqb (beside q e) q gives true else apart_from g (t (beside q e))
+apart_at t q g e = eqb (beside q e) q || apart_from g (t (beside q e))
+
+-- so is every endpoint of the tile
+unfoldable pub range_apart : Table → ℕ → ReceiveFields → Bool
+range_apart t q g = all (apart_at t q g) 64
 
 -- it ends at or below 64, holds only INVALID endpoints, and shares none with another range on its tile; 65535 has no range
 unfoldable pub range_sound : Table → ℕ → ReceiveFields → Bool
 range_sound t q g =
-    eqb g.rpl_eps 65535 gives true else
-    (leb (g.rpl_eps + slots_of g) 64 && (all (bare_at t q g) (slots_of g) && all (apart_at t q g) 64))
+    eqb g.rpl_eps 65535 || (leb (g.rpl_eps + slots_of g) 64 && (all (bare_at t q g) (slots_of g) && range_apart t q g))
 
 -- ---- a receive endpoint: no occupied bit; its range; and the max_crd aimed at it sum to at most 2^slots
 unfoldable pub receiver_sound : ℕ → Table → ℕ → ReceiveFields → Bool
@@ -76,14 +77,13 @@ unfoldable pub sound : ℕ → Table → Bool
 sound n t = all (sound_at n t) (n * 64)
 
 -- ---- what the host gets
-unfoldable pub wiring_of : Board → List ℕ → List ℕ → List ℕ → Wiring
-wiring_of b ws sh bs =
-    machine_right b ws sh bs gives (sound b.tiles (view ws) gives Yes else No) else Refused BadMachine
+unfoldable pub wiring_of : Board → List ℕ → List ℕ → List ℕ → Result Bool Error
+wiring_of b ws sh bs = if machine_right b ws sh bs then Ok (sound b.tiles (view ws)) else Err BadMachine
 
 -- It says yes exactly for sound wiring.
 unfoldable pub YesExactly : Type 0
 YesExactly =
-    (b : Board) (ws sh bs : List ℕ) → (wiring_of b ws sh bs ≡ Yes) ↔ ((machine_right b ws sh bs ≡ true) × Sound b.tiles (view ws))
+    (b : Board) (ws sh bs : List ℕ) → (wiring_of b ws sh bs ≡ Ok true) ↔ ((machine_right b ws sh bs ≡ true) × Sound b.tiles (view ws))
 
 -- ---- what the code asks of an endpoint that it read: the field of 6 bits is below 64
 abbrev pub Low : Endpoint → Type 0

@@ -2,56 +2,16 @@
 // The promise that rests on it is demand 3, `ledger/specs/Demand3.antt`.
 #![tactic(auto)]
 
-ghost use Rattle.std.specs.Prelude.{◌≡◌, ◌+◌, ◌*◌, ◌/◌, ◌<◌, ◌≤◌, length};
+ghost use Rattle.std.specs.Prelude.{◌≡◌, ◌+◌, ◌*◌, ◌<◌, ◌≤◌, length};
 ghost use Rattle.bits.specs.Search.{all};
-ghost use Rattle.endpoint.specs.Kinds.{is_invalid, is_receive};
 ghost use Rattle.table.specs.Table.{view};
 ghost use Rattle.slots.specs.Slots.{slots_of};
 ghost use Rattle.wiring.specs.Credits.{aims_at, promise, promised};
-ghost use Rattle.wiring.specs.Wiring.{whole, on_board, sender_sound, disjoint, clear_of, apart_from, bare_at, apart_at, range_sound, receiver_sound, sound_at, sound, wiring_of, Low};
+ghost use Rattle.wiring.specs.Wiring.{whole, on_board, sender_sound, disjoint, clear_of, bare_at, apart_at, range_apart, range_sound, receiver_sound, sound_at, sound, wiring_of, Low};
 
-use answers::Error;
+use answers::{Error, check};
 use board::Board;
 use endpoint::{Endpoint, ReceiveFields, SendFields};
-
-// What the host gets: the wiring is sound or not, or BAD_MACHINE.
-#[derive(Clone, Copy)]
-pub enum Wiring {
-    Yes,
-    No,
-    Refused(Error),
-}
-
-// The endpoint at a place of the table.
-fn endpoint_nth(words: &[u64], q: u64) -> Endpoint
-    requires { q * 3 + 2 < length words.now }
-    ensures { result ≡ view words.now q }
-{
-    let w = table::read_nth(words, q as usize);
-    endpoint::fields_of(w)
-}
-
-fn is_receive(e: Endpoint) -> bool
-    ensures { result ≡ is_receive e }
-{
-    match e {
-        Endpoint::Invalid => false,
-        Endpoint::Send(s) => false,
-        Endpoint::Receive(g) => true,
-        Endpoint::Memory(m) => false,
-    }
-}
-
-fn is_invalid(e: Endpoint) -> bool
-    ensures { result ≡ is_invalid e }
-{
-    match e {
-        Endpoint::Invalid => true,
-        Endpoint::Send(s) => false,
-        Endpoint::Receive(g) => false,
-        Endpoint::Memory(m) => false,
-    }
-}
 
 // ---- send endpoints
 
@@ -59,238 +19,216 @@ fn is_invalid(e: Endpoint) -> bool
 fn is_whole(s: SendFields) -> bool
     ensures { result ≡ whole s }
 {
-    !s.reply & ((s.cur_crd == s.max_crd) & (s.max_crd <= 62))
+    !s.reply && s.cur_crd == s.max_crd && s.max_crd <= 62
 }
 
-fn on_board(tiles: u64, s: SendFields) -> bool
+fn is_on_board(tiles: u64, s: SendFields) -> bool
     ensures { result ≡ on_board tiles s }
 {
-    (s.tgt_chip == 0) & ((s.tgt_tile as u64) < tiles)
+    s.tgt_chip == 0 && u64::from(s.tgt_tile) < tiles
 }
 
-fn sender_sound(b: Board, words: &[u64], s: SendFields) -> bool
-    requires { length words.now ≡ b.tiles * 192 }
-    ensures { result ≡ sender_sound b.tiles (view words.now) s }
+// Does s, without the reply mark, aim at a place?
+fn aims_at(s: SendFields, place: u64) -> bool
+    ensures { result ≡ aims_at place s }
 {
-    if !is_whole(s) {
-        return false;
-    }
-    if !on_board(b.tiles, s) {
-        return false;
-    }
-    let e = table::endpoint_at(words, s.tgt_tile as usize, s.tgt_ep as u64);
-    is_receive(e)
+    !s.reply
+        && s.tgt_chip == 0
+        && s.tgt_ep < 64
+        && u64::from(s.tgt_tile) * 64 + u64::from(s.tgt_ep) == place
 }
 
-// ---- reply ranges
-
-// Where the range of g ends.
-fn range_end(g: ReceiveFields) -> u64
-    requires { g.slots < 64 }
-    ensures { result ≡ g.rpl_eps + slots_of g }
-{
-    let n = bits::power(g.slots as u64);
-    g.rpl_eps as u64 + n
-}
-
-fn is_disjoint(g: ReceiveFields, h: ReceiveFields) -> bool
-    requires { (g.slots < 64) × (h.slots < 64) }
-    ensures { result ≡ disjoint g h }
-{
-    let one = range_end(g);
-    let other = range_end(h);
-    (one <= h.rpl_eps as u64) | (other <= g.rpl_eps as u64)
-}
-
-// Has h no range, or one apart from that of g?
-fn clear_of(g: ReceiveFields, h: ReceiveFields) -> bool
-    requires { (g.slots < 64) × (h.slots < 64) }
-    ensures { result ≡ clear_of g h }
-{
-    if h.rpl_eps == 65535 {
-        return true;
-    }
-    is_disjoint(g, h)
-}
-
-fn apart_from(g: ReceiveFields, e: Endpoint) -> bool
-    requires { (g.slots < 64) × Low e }
-    ensures { result ≡ apart_from g e }
+// What an endpoint promises to the receiver at a place.
+// 0 is what it adds to the sum: an endpoint that aims elsewhere promises nothing.
+#[tactic(auto, unfolding(crate::specs::Credits::share))]
+fn promise_by(e: Endpoint, place: u64) -> u8
+    ensures { result ≡ promise place e }
 {
     match e {
-        Endpoint::Invalid => true,
-        Endpoint::Send(s) => true,
-        Endpoint::Receive(h) => clear_of(g, h),
-        Endpoint::Memory(m) => true,
+        Endpoint::Send(s) if aims_at(s, place) => s.max_crd,
+        _ => 0,
     }
-}
-
-// Is endpoint e of the tile g itself, at place q, or has it a range apart from that of g?
-fn apart_at(words: &[u64], q: u64, g: ReceiveFields, e: u64) -> bool
-    requires { (q / 64 * 192 + 192 ≤ length words.now) × ((g.slots < 64) × (e < 64)) }
-    ensures { result ≡ apart_at (view words.now) q g e }
-{
-    let p = q / 64 * 64 + e;
-    if p == q {
-        return true;
-    }
-    let x = endpoint_nth(words, p);
-    apart_from(g, x)
-}
-
-// Is endpoint i of the range of g, at place q, INVALID?
-fn bare_at(words: &[u64], q: u64, g: ReceiveFields, i: u64) -> bool
-    requires { (q / 64 * 192 + 192 ≤ length words.now) × (g.rpl_eps + i < 64) }
-    ensures { result ≡ bare_at (view words.now) q g i }
-{
-    let e = endpoint_nth(words, q / 64 * 64 + (g.rpl_eps as u64 + i));
-    is_invalid(e)
-}
-
-// Does the range hold only INVALID endpoints?
-fn range_bare(words: &[u64], q: u64, g: ReceiveFields) -> bool
-    requires { (q / 64 * 192 + 192 ≤ length words.now) × ((g.slots < 64) × (g.rpl_eps + slots_of g ≤ 64)) }
-    ensures { result ≡ all (bare_at (view words.now) q g) (slots_of g) }
-{
-    let n = bits::power(g.slots as u64);
-    let mut i: u64 = 0;
-    while i < n {
-        if !bare_at(words, q, g, i) {
-            return false;
-        }
-        i += 1;
-    }
-    true
-}
-
-// Does it share none with another range on its tile?
-fn range_apart(words: &[u64], q: u64, g: ReceiveFields) -> bool
-    requires { (q / 64 * 192 + 192 ≤ length words.now) × (g.slots < 64) }
-    ensures { result ≡ all (apart_at (view words.now) q g) 64 }
-{
-    let mut e: u64 = 0;
-    while e < 64 {
-        if !apart_at(words, q, g, e) {
-            return false;
-        }
-        e += 1;
-    }
-    true
-}
-
-// The range of g, at place q, if it has one.
-fn range_sound(words: &[u64], q: u64, g: ReceiveFields) -> bool
-    requires { (q / 64 * 192 + 192 ≤ length words.now) × (g.slots < 64) }
-    ensures { result ≡ range_sound (view words.now) q g }
-{
-    if g.rpl_eps == 65535 {
-        return true;
-    }
-    let end = range_end(g);
-    if 64 < end {
-        return false;
-    }
-    if !range_bare(words, q, g) {
-        return false;
-    }
-    range_apart(words, q, g)
 }
 
 // ---- receive endpoints
 
-// Does s, without the reply mark, aim at a place?
-fn aims_at(s: SendFields, at: u64) -> bool
-    ensures { result ≡ aims_at at s }
-{
-    (!s.reply & ((s.tgt_chip == 0) & (s.tgt_ep < 64)))
-        & (s.tgt_tile as u64 * 64 + s.tgt_ep as u64 == at)
+// A receive endpoint as it is read from its place in the table: `slots` has 6 bits. That the place is one of a table's is asked by
+// the functions on `Endpoints`, since it speaks of that table's tiles too.
+#[derive(Clone, Copy)]
+struct Receiver {
+    place: u64,
+    fields: ReceiveFields,
+    ghost low: { fields.slots < 64 },
 }
 
-// What an endpoint promises to the receiver at a place.
-fn promise_by(e: Endpoint, at: u64) -> u8
-    ensures { result ≡ promise at e }
-{
-    match e {
-        Endpoint::Invalid => 0,
-        Endpoint::Send(s) => { if aims_at(s, at) { s.max_crd } else { 0 } }
-        Endpoint::Receive(g) => 0,
-        Endpoint::Memory(m) => 0,
+impl Receiver {
+    fn slots(self) -> u64
+        ensures { result ≡ slots_of self.fields }
+    {
+        bits::power(u64::from(self.fields.slots))
     }
-}
 
-// What all promise to it.
-fn promised_to(b: Board, words: &[u64], at: u64) -> u64
-    requires { (b.tiles ≤ 8) × (length words.now ≡ b.tiles * 192) }
-    ensures { result ≡ promised (b.tiles * 64) (view words.now) at }
-{
-    let n = b.tiles * 64;
-    let mut total: u64 = 0;
-    let mut q: u64 = 0;
-    while q < n {
-        let e = endpoint_nth(words, q);
-        total += promise_by(e, at) as u64;
-        q += 1;
+    // Where its reply range ends.
+    fn range_end(self) -> u64
+        ensures { result ≡ self.fields.rpl_eps + slots_of self.fields }
+    {
+        u64::from(self.fields.rpl_eps) + self.slots()
     }
-    total
-}
 
-// The receive endpoint g at place q: no occupied bit, its range if it has one, and the credits promised to it.
-fn receiver_sound(b: Board, words: &[u64], q: u64, g: ReceiveFields) -> bool
-    requires { (b.tiles ≤ 8) × ((length words.now ≡ b.tiles * 192) × ((q < b.tiles * 64) × (g.slots < 64))) }
-    ensures { result ≡ receiver_sound b.tiles (view words.now) q g }
-{
-    if g.occupied != 0 {
-        return false;
+    fn is_disjoint(self, other: Receiver) -> bool
+        ensures { result ≡ disjoint self.fields other.fields }
+    {
+        self.range_end() <= u64::from(other.fields.rpl_eps)
+            || other.range_end() <= u64::from(self.fields.rpl_eps)
     }
-    if !range_sound(words, q, g) {
-        return false;
+
+    // Has the other no range, or one apart from that of this one?
+    #[tactic(auto, unfolding(crate::specs::Wiring::clear_of))]
+    fn is_clear_of(self, other: Receiver) -> bool
+        ensures { result ≡ clear_of self.fields other.fields }
+    {
+        other.fields.rpl_eps == 65535 || self.is_disjoint(other)
     }
-    let n = bits::power(g.slots as u64);
-    promised_to(b, words, q) <= n
 }
 
 // ---- the table
 
-fn sound_at(b: Board, words: &[u64], q: u64) -> bool
-    requires { (b.tiles ≤ 8) × ((length words.now ≡ b.tiles * 192) × (q < b.tiles * 64)) }
-    ensures { result ≡ sound_at b.tiles (view words.now) q }
-{
-    let e = endpoint_nth(words, q);
-    match e {
-        Endpoint::Invalid => true,
-        Endpoint::Send(s) => sender_sound(b, words, s),
-        Endpoint::Receive(g) => receiver_sound(b, words, q, g),
-        Endpoint::Memory(m) => true,
-    }
+// The endpoints of a machine of right sizes, in the words that the host lent.
+#[derive(Drop)]
+struct Endpoints<'a> {
+    tiles: u64,
+    words: &'a [u64],
+    ghost few: { tiles ≤ 8 },
+    ghost long: { length words.now ≡ tiles * 192 },
 }
 
-fn is_sound(b: Board, words: &[u64]) -> bool
-    requires { (b.tiles ≤ 8) × (length words.now ≡ b.tiles * 192) }
-    ensures { result ≡ sound b.tiles (view words.now) }
-{
-    let n = b.tiles * 64;
-    let mut q: u64 = 0;
-    while q < n {
-        if !sound_at(b, words, q) {
-            return false;
-        }
-        q += 1;
+impl<'a> Endpoints<'a> {
+    // The endpoint at a place.
+    #[tactic(auto, using(crate::proofs::Low::view_low), unfolding(table::specs::Table::view))]
+    fn at(&self, place: u64) -> Endpoint
+        requires { place < self.now.tiles * 64 }
+        ensures value { result ≡ view self.now.words.now place }
+        ensures low { Low result }
+    {
+        // `as` keeps the number, and `usize` has no `From<u64>`.
+        endpoint::fields_of(table::read_nth(self.words, place as usize))
     }
-    true
+
+    #[tactic(auto, unfolding(crate::specs::Wiring::sender_sound))]
+    fn is_sender_sound(&self, s: SendFields) -> bool
+        ensures { result ≡ sender_sound self.now.tiles (view self.now.words.now) s }
+    {
+        is_whole(s)
+            && is_on_board(self.tiles, s)
+            && matches!(
+                table::endpoint_at(self.words, usize::from(s.tgt_tile), u64::from(s.tgt_ep)),
+                Endpoint::Receive(_)
+            )
+    }
+
+    // Is endpoint i of the range of g INVALID?
+    fn is_bare_at(&self, g: Receiver, i: u64) -> bool
+        requires { (g.place < self.now.tiles * 64) × (g.fields.rpl_eps + i < 64) }
+        ensures { result ≡ bare_at (view self.now.words.now) g.place g.fields i }
+    {
+        let place = g.place / 64 * 64 + (u64::from(g.fields.rpl_eps) + i);
+        matches!(self.at(place), Endpoint::Invalid)
+    }
+
+    // Does the range hold only INVALID endpoints?
+    fn is_range_bare(&self, g: Receiver) -> bool
+        requires { (g.place < self.now.tiles * 64) × (g.fields.rpl_eps + slots_of g.fields ≤ 64) }
+        ensures { result ≡ all (bare_at (view self.now.words.now) g.place g.fields) (slots_of g.fields) }
+    {
+        (0..g.slots()).all(|i| self.is_bare_at(g, i))
+    }
+
+    // Is endpoint e of the tile g itself, or has it no range, or one apart from that of g?
+    #[tactic(auto, unfolding(crate::specs::Wiring::apart_at, crate::specs::Wiring::apart_from))]
+    fn is_apart_at(&self, g: Receiver, e: u64) -> bool
+        requires { (g.place < self.now.tiles * 64) × (e < 64) }
+        ensures { result ≡ apart_at (view self.now.words.now) g.place g.fields e }
+    {
+        let place = g.place / 64 * 64 + e;
+        match self.at(place) {
+            Endpoint::Receive(fields) if place != g.place => {
+                g.is_clear_of(Receiver { place, fields })
+            }
+            _ => true,
+        }
+    }
+
+    // Does it share none with another range on its tile?
+    #[tactic(auto, unfolding(crate::specs::Wiring::range_apart))]
+    fn is_range_apart(&self, g: Receiver) -> bool
+        requires { g.place < self.now.tiles * 64 }
+        ensures { result ≡ range_apart (view self.now.words.now) g.place g.fields }
+    {
+        (0..64).all(|e| self.is_apart_at(g, e))
+    }
+
+    // The range of g, if it has one.
+    #[tactic(auto, unfolding(crate::specs::Wiring::range_sound))]
+    fn is_range_sound(&self, g: Receiver) -> bool
+        requires { g.place < self.now.tiles * 64 }
+        ensures { result ≡ range_sound (view self.now.words.now) g.place g.fields }
+    {
+        g.fields.rpl_eps == 65535
+            || g.range_end() <= 64 && self.is_range_bare(g) && self.is_range_apart(g)
+    }
+
+    // What all promise to the receiver at a place.
+    fn promised_to(&self, place: u64) -> u64
+        ensures { result ≡ promised (self.now.tiles * 64) (view self.now.words.now) place }
+    {
+        (0..self.tiles * 64)
+            .map(|q| u64::from(promise_by(self.at(q), place)))
+            .sum()
+    }
+
+    // The receive endpoint g: no occupied bit, its range if it has one, and the credits promised to it.
+    #[tactic(auto, unfolding(crate::specs::Wiring::receiver_sound))]
+    fn is_receiver_sound(&self, g: Receiver) -> bool
+        requires { g.place < self.now.tiles * 64 }
+        ensures { result ≡ receiver_sound self.now.tiles (view self.now.words.now) g.place g.fields }
+    {
+        g.fields.occupied == 0 && self.is_range_sound(g) && self.promised_to(g.place) <= g.slots()
+    }
+
+    #[tactic(auto, unfolding(crate::specs::Wiring::endpoint_sound))]
+    fn is_sound_at(&self, place: u64) -> bool
+        requires { place < self.now.tiles * 64 }
+        ensures { result ≡ sound_at self.now.tiles (view self.now.words.now) place }
+    {
+        match self.at(place) {
+            Endpoint::Send(s) => self.is_sender_sound(s),
+            Endpoint::Receive(fields) => { self.is_receiver_sound(Receiver { place, fields }) }
+            _ => true,
+        }
+    }
+
+    #[tactic(auto, unfolding(crate::specs::Wiring::sound))]
+    fn is_sound(&self) -> bool
+        ensures { result ≡ sound self.now.tiles (view self.now.words.now) }
+    {
+        (0..self.tiles * 64).all(|place| self.is_sound_at(place))
+    }
 }
 
 // ---- for the host
 
-// The wiring check.
-pub fn check_wiring(b: Board, words: &[u64], sharing: &[u64], mem: &[u8]) -> Wiring
+// The wiring check: sound or not, or BAD_MACHINE.
+#[tactic(auto, using(crate::proofs::Right::right_lent), unfolding(crate::specs::Wiring::wiring_of))]
+pub fn check_wiring(b: Board, words: &[u64], sharing: &[u64], mem: &[u8]) -> Result<bool, Error>
     ensures { result ≡ wiring_of b words.now sharing.now mem.now }
 {
-    if !machine::machine_right(b, words, sharing, mem) {
-        return Wiring::Refused(Error::BadMachine);
-    }
-    if is_sound(b, words) {
-        Wiring::Yes
-    } else {
-        Wiring::No
-    }
+    check(
+        machine::machine_right(b, words, sharing, mem),
+        Error::BadMachine,
+    )?;
+    let endpoints = Endpoints {
+        tiles: b.tiles,
+        words,
+    };
+    Ok(endpoints.is_sound())
 }

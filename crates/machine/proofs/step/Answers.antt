@@ -1,8 +1,8 @@
 -- `machine::step` meets its contract. Assumes nothing.
 use Rattle.board.proofs.BoardLaws.{bounds}
 use Rattle.sharing.proofs.NoteLaws.{inside}
-use Rattle.machine.proofs.LeftLaws.{leaves_noted, note_of, own_as}
-use Rattle.machine.proofs.Noting.{note_fits, step_notes}
+use Rattle.machine.specs.Machine.{opcode_of}
+use Rattle.machine.proofs.Noting.{step_note_fits}
 use Rattle.machine.proofs.step.Goals as goal
 
 pub own-own-requires : goal.own-own-requires
@@ -12,8 +12,6 @@ own-own-requires c =
 
 pub take_note-requires : goal.take_note-requires
 take_note-requires c =
+    let a = c.args in
     let p = c.requires in
-    ((bounds _ p.0.board).few, p.0.there, p.1, note_of _ _ _ _ _ _ c.dispatch-done.ensures (note_fits _ _ _ _ _ _ (step_notes _ _ _ _ _ _ _ _ _)))
-
-pub returns : goal.returns
-returns c = leaves_noted _ _ _ _ _ _ _ (own_as _ _ _ _ _ _ _ _ _ _ _ _ _ c.own-own.ensures c.dispatch-done.ensures) c.take_note.ensures
+    ((bounds _ p.0.board).few, p.0.there, p.1, step_note_fits a.a.arg1 a.b a.words.now a.sharing.now a.mem.now c.dispatch.new.words c.dispatch.new.mem c.own-own.result a.tile a.ep (opcode_of a.opcode) a.a c.dispatch.result c.in_ok-done.done c.dispatch.ensures c.in_ok-done.was)

@@ -1,8 +1,11 @@
--- `memory::store_word` meets its contract: eight stores, one after another. Assumes nothing.
-use Rattle.memory.specs.Bytes.{word, bytes}
-use Rattle.memory.proofs.ByteLaws.{eight}
+-- `memory::store_word` meets its contract: the word's bytes, least first. Assumes nothing.
+use Prim.Native.Nat.{◌+◌, ◌-◌}
+use mathlib.Core.Path.{◌∙◌}
+use native.Mathlib.Omega.{arith}
+use Rattle.memory.proofs.ByteLaws.{word_is, put_word}
 use Rattle.memory.proofs.store_word.Goals as goal
 
 pub returns : goal.returns
-unfolding word bytes
-returns c = eight _ _ _ _ _ _ _ _ _ _
+returns c =
+    let a = c.args in
+    rw (c.copy_from_slice.ensures.after ∙ c.to_le_bytes.ensures ∙ word_is a.value) (put_word a.mem.now a.at (a.at + 8 - a.at) a.value (omega arith) c.requires)

@@ -1,9 +1,0 @@
--- `activities::fill` is safe and ends. Assumes nothing.
-use Prim.Native.Nat.{◌-◌, ◌≤◌}
-use Rattle.activities.proofs.fill.Given as goal
-
-abbrev pub invariant-loop-k : goal.invariant-loop-k
-invariant-loop-k l = l.k ≤ 63
-
-abbrev pub decreases-loop-k : goal.decreases-loop-k
-decreases-loop-k l = 63 - l.k

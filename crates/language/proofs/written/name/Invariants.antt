@@ -1,8 +1,0 @@
-use Prim.Native.Nat.{◌-◌, ◌≤◌}
-use Rattle.language.proofs.written.name.Given as goal
-
-abbrev pub invariant-loop-j : goal.invariant-loop-j
-invariant-loop-j g l = l.j ≤ 18
-
-abbrev pub decreases-loop-j : goal.decreases-loop-j
-decreases-loop-j g l = 18 - l.j
