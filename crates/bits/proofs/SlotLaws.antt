@@ -13,13 +13,13 @@ use Rattle.bits.specs.Slots.{slot_at, find_slot}
 use Rattle.bits.specs.declared.Slot.{Slot}
 use Rattle.bits.proofs.BitLaws.{has_bit_lem, ones_full}
 
-beq_true : (a b : Bool) → beq a b ≡ true → a ≡ b
+pub beq_true : (a b : Bool) → beq a b ≡ true → a ≡ b
 beq_true true true e = refl
 beq_true true false e = cc
 beq_true false true e = cc
 beq_true false false e = refl
 
-beq_false : (a b : Bool) → beq a b ≡ false → a ≡ not b
+pub beq_false : (a b : Bool) → beq a b ≡ false → a ≡ not b
 beq_false true true e = cc
 beq_false true false e = refl
 beq_false false true e = refl

@@ -7,7 +7,9 @@
 ghost use Rattle.std.specs.Prelude.{◌≡◌, true, ◌+◌, ◌<◌, ◌≤◌};
 ghost use Rattle.board.specs.Board.{allowed, size_of, start_of, bytes_of};
 ghost use Rattle.command.specs.Local.{crosses_page, outside};
+ghost use Rattle.command.specs.Outcome.{handed};
 
+use answers::Error;
 use board::Board;
 use sharing::Note;
 
@@ -25,6 +27,30 @@ pub struct Registers {
 pub struct Completion {
     pub arg1: u64,
     pub note: Note,
+}
+
+// What the caller of a command is told: the answer, and ARG_1 afterwards.
+#[derive(Clone, Copy)]
+pub struct Told {
+    pub answer: Result<(), Error>,
+    pub arg1: u64,
+}
+
+// What is told of a command that was given ARG_1 as `given`: a refusal leaves it as it was.
+pub fn tell(done: Result<Completion, Error>, given: u64) -> Told
+    ensures answer { result.answer ≡ (handed given done).answer }
+    ensures arg1 { result.arg1 ≡ (handed given done).arg1 }
+{
+    match done {
+        Ok(completion) => Told {
+            answer: Ok(()),
+            arg1: completion.arg1,
+        },
+        Err(error) => Told {
+            answer: Err(error),
+            arg1: given,
+        },
+    }
 }
 
 // The page rule.

@@ -1,8 +1,9 @@
 // An endpoint as eleven numbers: its kind, the fields of that kind, and zeros (`specs/Fields.antt`).
 #![tactic(auto)]
 
-ghost use Rattle.std.specs.Prelude.{◌≡◌, length};
-ghost use Rattle.lists.specs.Fields.{field_values, send_at, receive_at, memory_at, read_list, endpoint_of, pack_list};
+ghost use Rattle.std.specs.Prelude.{◌≡◌, ◌==◌, length, slice_index};
+ghost use Rattle.std.specs.List.{list_all, range_with_len};
+ghost use Rattle.lists.specs.Fields.{field_values, send_at, receive_at, memory_at, read_list, pack_list};
 
 use answers::{Error, check};
 use endpoint::{Endpoint, MemoryFields, ReceiveFields, SendFields, Words};
@@ -148,23 +149,22 @@ fn read(fields: &[u64]) -> Endpoint
     }
 }
 
-// The endpoint that a list names, if it is the list of one.
-#[tactic(auto, unfolding(crate::specs::Fields::endpoint_of))]
-fn named(fields: &[u64]) -> Option<Endpoint>
+// Are the numbers of an endpoint those of a list? One number after another, and no comparison of slices: that one keeps both in memory.
+fn is_same(own: [u64; 11], fields: &[u64]) -> bool
     requires { length fields.now ≡ 11 }
-    ensures { result ≡ endpoint_of fields.now }
+    ensures { result ≡ list_all (λ i. slice_index own i == slice_index fields.now i) (range_with_len 0 11) }
 {
-    let e = read(fields);
-    (values(e).as_slice() == fields).then_some(e)
+    (0..11).all(|i| own[i] == fields[i])
 }
 
-// The words of the endpoint that a list names.
-#[tactic(auto, unfolding(crate::specs::Fields::pack_list, crate::specs::Fields::pack_named))]
+// The words of the endpoint that a list names, if it is the list of one.
+#[tactic(auto, using(crate::proofs::ListLaws::eleven_same), unfolding(crate::specs::Fields::endpoint_of, crate::specs::Fields::pack_list, crate::specs::Fields::pack_named))]
 pub fn pack(memory: u64, fields: &[u64]) -> Result<Words, Error>
     requires { length fields.now ≡ 11 }
     ensures { result ≡ pack_list memory fields.now }
 {
     check(board::memory_allowed(memory), Error::BadMachine)?;
-    let e = named(fields).ok_or(Error::BadConfig)?;
+    let e = read(fields);
+    check(is_same(values(e), fields), Error::BadConfig)?;
     endpoint::pack(memory, e)
 }

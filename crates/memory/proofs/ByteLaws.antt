@@ -1,5 +1,5 @@
 -- The laws of `put` and `part`. Where a store has to lie within the list, a law says so; the others hold of any place. Assumes nothing.
-use mathlib.Core.Path.{◌≡◌, refl, sym, ap}
+use mathlib.Core.Path.{◌≡◌, refl, sym, ap, ◌∙◌}
 use Prim.Native.Nat.{ℕ, zero, suc, ◌+◌, ◌-◌, ◌/◌, ◌%◌, ◌^◌, ◌≤◌, ◌<◌}
 use native.Mathlib.Omega.{arith}
 use mathlib.Core.List.{List, [], ◌∷◌, ◌++◌, append_assoc}
@@ -207,6 +207,40 @@ unfolding part
 put_within xs from to n h k =
     let e : from + n - from ≡ n = omega arith in
     rw (e, append_assoc) (put-splice xs to (to + n) (take n (drop from xs)) (omega (arith, length_part xs from n h)) k)
+
+-- ---- a move in two parts, of which the first has k elements: downwards that part goes first, upwards the other
+parted : (xs : List ℕ) (from to n k : ℕ) → k ≤ n → put xs to (part xs from k ++ part xs (from + k) (n - k)) ≡ put xs to (part xs from n)
+parted xs from to n k h =
+    let e : k + (n - k) ≡ n = omega arith in
+    ap (put xs to) (sym (part-part xs from k (n - k)) ∙ ap (part xs from) e)
+
+pub downwards : (xs : List ℕ) (from to n k : ℕ) → to ≤ from → k ≤ n → from + n ≤ length xs
+    → copy_within (copy_within xs from (from + k) to) (from + k) (from + n) (to + k) ≡ put xs to (part xs from n)
+downwards xs from to n k h i j =
+    let l : length (part xs from k) ≡ k = length_part xs from k (omega arith) in
+    let m : length (put xs to (part xs from k)) ≡ length xs = length-put xs to (part xs from k) in
+    let e : from + n ≡ from + k + (n - k) = omega arith in
+    rw (
+      put_within xs from to k (omega arith) (omega arith),
+      e,
+      put_within (put xs to (part xs from k)) (from + k) (to + k) (n - k) (omega (arith, m)) (omega (arith, m)),
+      part-put_after xs to (part xs from k) (from + k) (n - k) (omega (arith, l)),
+    )
+    (put_after xs to (to + k) (part xs from k) (part xs (from + k) (n - k)) (omega (arith, l)) ∙ parted xs from to n k i)
+
+pub upwards : (xs : List ℕ) (from to n k : ℕ) → from ≤ to → k ≤ n → to + n ≤ length xs
+    → copy_within (copy_within xs (from + k) (from + n) (to + k)) from (from + k) to ≡ put xs to (part xs from n)
+upwards xs from to n k h i j =
+    let l : length (part xs from k) ≡ k = length_part xs from k (omega arith) in
+    let m : length (put xs (to + k) (part xs (from + k) (n - k))) ≡ length xs = length-put xs (to + k) (part xs (from + k) (n - k)) in
+    let e : from + n ≡ from + k + (n - k) = omega arith in
+    rw (
+      e,
+      put_within xs (from + k) (to + k) (n - k) (omega arith) (omega arith),
+      put_within (put xs (to + k) (part xs (from + k) (n - k))) from to k (omega (arith, m)) (omega (arith, m)),
+      part-put_before xs (to + k) (part xs (from + k) (n - k)) from k (omega arith),
+    )
+    (put_before xs to (to + k) (part xs from k) (part xs (from + k) (n - k)) (omega (arith, l)) ∙ parted xs from to n k i)
 
 -- the eight bytes of a word, as the library takes them
 pub word_is : (v : ℕ) → to_le_bytes w64 v ≡ word v

@@ -1,8 +1,10 @@
 // What each statement does on the board.
 #![tactic(auto)]
 
-ghost use Rattle.std.specs.Prelude.{◌≡◌, true, IfOk, vec_len};
+ghost use Rattle.std.specs.Prelude.{◌≡◌, true, IfOk, Some, None, vec_len};
 ghost use Rattle.board.specs.Board.{allowed, sizes_right};
+ghost use Rattle.command.specs.Outcome.{handed};
+ghost use Rattle.statements.specs.Answers.{outcome_of};
 
 mod printing;
 
@@ -33,7 +35,10 @@ pub struct System {
 }
 
 // An answer without ARG_1.
-fn answered<T: Drop>(answer: Result<T, Error>) -> Answered {
+fn answered<T: Drop>(answer: Result<T, Error>) -> Answered
+    ensures outcome { result.outcome ≡ outcome_of answer }
+    ensures arg1 { result.arg1 ≡ None }
+{
     Answered {
         outcome: match answer {
             Ok(_) => Outcome::Done,
@@ -44,10 +49,14 @@ fn answered<T: Drop>(answer: Result<T, Error>) -> Answered {
 }
 
 // A command's answer, where ARG_1 was given: a refusal leaves it as it was.
-fn completed(arg1: u64, answer: Result<Completion, Error>) -> Answered {
+fn completed(arg1: u64, done: Result<Completion, Error>) -> Answered
+    ensures outcome { result.outcome ≡ outcome_of (handed arg1 done).answer }
+    ensures arg1 { result.arg1 ≡ Some (handed arg1 done).arg1 }
+{
+    let told = command::tell(done, arg1);
     Answered {
-        arg1: Some(answer.map_or(arg1, |completion| completion.arg1)),
-        ..answered(answer)
+        arg1: Some(told.arg1),
+        ..answered(told.answer)
     }
 }
 

@@ -20,13 +20,9 @@ fn hand_back(done: Result<Completion, Error>, arg1: &mut u64) -> u32
     ensures number { result ≡ number_of (handed arg1.old done).answer }
     ensures value { arg1.new ≡ (handed arg1.old done).arg1 }
 {
-    match done {
-        Ok(c) => {
-            *arg1 = c.arg1;
-            0
-        }
-        Err(e) => e.code(),
-    }
+    let told = command::tell(done, *arg1);
+    *arg1 = told.arg1;
+    answers::number(told.answer)
 }
 
 // Carries out one command of a tile. ARG_1 comes back where it was given.

@@ -2,10 +2,10 @@
 use Prim.Native.Nat.{◌+◌, ◌-◌}
 use mathlib.Core.Path.{◌∙◌}
 use native.Mathlib.Omega.{arith}
-use Rattle.memory.proofs.ByteLaws.{word_is, put_word}
+use Rattle.memory.proofs.ByteLaws.{put_word}
 use Rattle.memory.proofs.store_word.Goals as goal
 
 pub returns : goal.returns
 returns c =
     let a = c.args in
-    rw (c.copy_from_slice.ensures.after ∙ c.to_le_bytes.ensures ∙ word_is a.value) (put_word a.mem.now a.at (a.at + 8 - a.at) a.value (omega arith) c.requires)
+    rw (c.copy_from_slice.ensures.after ∙ c.word_bytes.ensures) (put_word a.mem.now a.at (a.at + 8 - a.at) a.value (omega arith) c.requires)
