@@ -4,8 +4,10 @@
 ghost use Rattle.std.specs.Prelude.{◌≡◌, ◌+◌, ◌*◌, ◌<◌, ◌≤◌, length, OnOk, IfOk, Some, IsTrue, ◌↔◌, ◌≢◌, ◌^◌, nat_lt, if◌then◌else◌};
 ghost use Rattle.std.specs.Iterator.{at_most};
 ghost use Rattle.channels.specs.Phrases.{place};
-ghost use Rattle.channels.specs.Aims.{reached};
+ghost use Rattle.channels.specs.Aims.{aimed, reached};
 ghost use Rattle.board.specs.Board.{size_of};
+ghost use Rattle.endpoint.specs.Kinds.{is_receive};
+ghost use Rattle.table.specs.Table.{endpoint_at, view};
 
 use board::Board;
 use endpoint::{Endpoint, MemoryFields, ReceiveFields, SendFields, Words};
@@ -21,7 +23,11 @@ pub struct Place {
 }
 
 impl Place {
-    fn of(number: usize) -> Place {
+    ghost use Rattle.channels.specs.Endpoints.{place_of};
+
+    fn of(number: usize) -> Place
+        ensures { result ≡ place_of number }
+    {
         Place {
             tile: number / 64,
             ep: number % 64,
@@ -77,6 +83,7 @@ pub struct Channels<'a> {
     running: &'a [u16],
     ghost few: { board.tiles ≤ 8 },
     ghost whole_table: { length words.now ≡ board.tiles * 192 },
+    ghost one_each: { length running.now ≡ board.tiles },
 }
 
 // The endpoints of a part of the table, each with its place.
@@ -88,7 +95,11 @@ pub struct Endpoints<'a> {
 }
 
 impl<'a> Iterator for Endpoints<'a> {
+    ghost use Rattle.channels.specs.Endpoints.{TakesEndpoint};
+
     type Item = (Place, Endpoint);
+
+    ghost next_gives = { TakesEndpoint };
 
     ghost remaining = { λ s. at_most (length s.words.now) };
 
@@ -159,6 +170,8 @@ fn first_unacceptable(b: Board, words: &[u64]) -> Option<usize>
 }
 
 impl<'a> Channels<'a> {
+    ghost use Rattle.channels.specs.Endpoints.{tile_words};
+
     pub fn of(board: Board, words: &'a [u64], running: &'a [u16]) -> Result<Channels<'a>, Misfit>
         ensures { IfOk result (λ c. (c.board ≡ board) × (c.words.now ≡ words.now) × (c.running.now ≡ running.now)) }
     {
@@ -195,7 +208,10 @@ impl<'a> Channels<'a> {
         board::size(self.board, tile as u64)
     }
 
-    pub fn endpoints(&self) -> Endpoints<'a> {
+    pub fn endpoints(&self) -> Endpoints<'a>
+        ensures first { result.number ≡ 0 }
+        ensures words { result.words.now ≡ self.now.words.now }
+    {
         Endpoints {
             words: self.words,
             number: 0,
@@ -203,7 +219,10 @@ impl<'a> Channels<'a> {
     }
 
     // The endpoints of a tile.
-    pub fn endpoints_of(&self, tile: usize) -> Endpoints<'a> {
+    pub fn endpoints_of(&self, tile: usize) -> Endpoints<'a>
+        ensures first { tile < self.now.board.tiles → result.number ≡ tile * 64 }
+        ensures words { result.words.now ≡ tile_words self.now.board.tiles self.now.words.now tile }
+    {
         if tile as u64 >= self.board.tiles {
             return Endpoints {
                 words: &[],
@@ -221,23 +240,30 @@ impl<'a> Channels<'a> {
     }
 
     // The endpoints that send to the receive endpoint there, but for those that reply once.
-    pub fn senders(&self, receiver: Place) -> Senders<'a> {
+    pub fn senders(&self, receiver: Place) -> Senders<'a>
+        ensures receiver { result.receiver ≡ receiver }
+        ensures first { result.endpoints.number ≡ 0 }
+        ensures words { result.endpoints.words.now ≡ self.now.words.now }
+    {
         Senders {
             endpoints: self.endpoints(),
             receiver,
         }
     }
 
-    fn is_receiver(&self, tile: u8, ep: u16) -> bool {
-        let aimed = Place {
-            tile: usize::from(tile),
-            ep: usize::from(ep),
-        };
-        self.endpoints().any(|(place, e)| place == aimed && matches!(e, Endpoint::Receive(_)))
+    // Read where it stands, since each send endpoint asks it; past a tile's last endpoint nothing receives.
+    fn is_receiver(&self, tile: u8, ep: u16) -> bool
+        requires { tile < self.now.board.tiles }
+        ensures { result ≡ is_receive (endpoint_at (view self.now.words.now) tile ep) }
+    {
+        let aimed = table::endpoint_at(self.words, usize::from(tile), u64::from(ep));
+        matches!(aimed, Endpoint::Receive(_))
     }
 
     // Whether there is what a send endpoint aims at.
-    pub fn receiver(&self, s: SendFields) -> Result<(), Missing> {
+    pub fn receiver(&self, s: SendFields) -> Result<(), Missing>
+        ensures { result ≡ aimed self.now.board (view self.now.words.now) s }
+    {
         if s.tgt_chip != 0 {
             return Err(Missing::Chip(s.tgt_chip));
         }
