@@ -9,7 +9,7 @@ use std::io::{self, Write};
 #[derive(Clone, Copy)]
 pub struct Checked {
     lines: u64,
-    context: Context,
+    pub context: Context,
     pub mistakes: u64,
 }
 

@@ -1,9 +1,13 @@
 // What the tiles' memory holds: bytes put there by `bytes`, and printed by `dump`.
 #![tactic(auto)]
 
-ghost use Rattle.std.specs.Prelude.{◌≡◌, ◌≤◌, true};
+ghost use Rattle.std.specs.Prelude.{◌≡◌, ◌<◌, ◌≤◌, true, false, OnOk, if◌then◌else◌, nat_le, ◌&&◌, map};
+ghost use Rattle.std.specs.Fmt.{digit_glyph};
+ghost use Rattle.std.specs.List.{flat_map};
+ghost use Rattle.std.specs.Io.KnownBytes.{Appends};
 ghost use Rattle.board.specs.Board.{allowed, bytes_of, start_of};
 ghost use Rattle.contents.specs.Bytes.{with_bytes};
+ghost use Rattle.contents.specs.Rows.{row_start, byte_text, printable, row};
 
 use board::Board;
 use std::io::{self, Write};
@@ -49,25 +53,73 @@ pub fn put(memory: &mut [u8], at: usize, bytes: &[u8])
     }
 }
 
-fn printable(byte: u8) -> char {
+fn printable(byte: u8) -> u8
+    ensures { result ≡ printable byte }
+{
     match byte {
-        b' '..=b'~' => char::from(byte),
-        _ => '.',
+        b' '..=b'~' => byte,
+        _ => b'.',
     }
 }
 
+// TILE:ADDRESS
+#[tactic(auto, using(output::proofs::Padding::zero_padded))]
+fn row_start<W: Write>(out: &mut W, tile: u64, address: u64) -> io::Result<()>
+    ensures { OnOk result (Appends (W.contents out.old) (W.contents out.new) (row_start tile address)) }
+{
+    write!(out, "{tile}:0x{address:04x} ")
+}
+
+fn digit(value: u8) -> u8
+    requires { value < 16 }
+    ensures { result ≡ digit_glyph false value }
+{
+    if value < 10 {
+        b'0' + value
+    } else {
+        b'a' + (value - 10)
+    }
+}
+
+// The digits one by one: a formatter for each byte would more than double what a dump takes.
+#[tactic(auto, using(crate::proofs::Digits::two_digits))]
+fn hex_byte<W: Write>(out: &mut W, byte: u8) -> io::Result<()>
+    ensures { OnOk result (Appends (W.contents out.old) (W.contents out.new) (byte_text byte)) }
+{
+    out.write_all(&[b' ', digit(byte / 16), digit(byte % 16)])
+}
+
+#[tactic(auto, using(std::proofs::lemmas::List::flat_map_more))]
+fn hex_bytes<W: Write>(out: &mut W, bytes: &[u8]) -> io::Result<()>
+    ensures { OnOk result (Appends (W.contents out.old) (W.contents out.new) (flat_map byte_text bytes.now)) }
+{
+    for byte in bytes {
+        hex_byte(out, *byte)?;
+    }
+    Ok(())
+}
+
+// Byte by byte: a formatter for each of them would take two fifths more for all of a dump.
+#[tactic(auto, using(std::proofs::lemmas::List::map_more))]
+fn characters<W: Write>(out: &mut W, bytes: &[u8]) -> io::Result<()>
+    ensures { OnOk result (Appends (W.contents out.old) (W.contents out.new) (map printable bytes.now)) }
+{
+    for byte in bytes {
+        output::byte(out, printable(*byte))?;
+    }
+    Ok(())
+}
+
 // TILE:ADDRESS, the bytes, and between bars what of them is printable.
-fn row<W: Write>(out: &mut W, tile: u64, address: u64, bytes: &[u8]) -> io::Result<()> {
-    write!(out, "{tile}:0x{address:04x} ")?;
-    for byte in bytes {
-        write!(out, " {byte:02x}")?;
-    }
-    let gap = ROW.saturating_sub(bytes.len()) * 3 + 2;
-    write!(out, "{:gap$}|", "")?;
-    for byte in bytes {
-        write!(out, "{}", printable(*byte))?;
-    }
-    writeln!(out, "|")
+fn row<W: Write>(out: &mut W, tile: u64, address: u64, bytes: &[u8]) -> io::Result<()>
+    ensures { OnOk result (Appends (W.contents out.old) (W.contents out.new) (row tile address bytes.now)) }
+{
+    row_start(out, tile, address)?;
+    hex_bytes(out, bytes)?;
+    output::blanks(out, ROW.saturating_sub(bytes.len()) * 3 + 2)?;
+    output::byte(out, b'|')?;
+    characters(out, bytes)?;
+    output::text(out, b"|\n")
 }
 
 // Bytes of a tile from an address on, in rows.

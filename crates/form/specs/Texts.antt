@@ -1,6 +1,11 @@
 -- What is written of a value.
-use Rattle.std.specs.Prelude.{ℕ, List, [], if◌then◌else◌, ◌==◌, codes}
+use Rattle.std.specs.Prelude.{ℕ, List, [], ◌++◌, if◌then◌else◌, ◌==◌, codes}
 use Rattle.std.specs.Fmt.{decimal}
+use Rattle.output.specs.Columns.{hex_text}
+
+-- 0x and hexadecimal
+abbrev pub hexadecimal : ℕ → List ℕ
+hexadecimal n = codes "0x" ++ hex_text n
 
 -- the s of a plural
 abbrev pub plural : ℕ → List ℕ

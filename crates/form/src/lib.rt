@@ -2,9 +2,21 @@
 #![tactic(auto)]
 
 ghost use Rattle.std.specs.Prelude.{Some, codes};
-ghost use Rattle.form.specs.Texts.{plural, permission, allowed, named};
+ghost use Rattle.form.specs.Texts.{hexadecimal, plural, permission, allowed, named};
 
 use std::fmt;
+
+// An address, a label or a mask: 0x, and hexadecimal with no zero before it.
+#[derive(Clone, Copy)]
+pub struct Hexadecimal(pub u64);
+
+impl fmt::Display for Hexadecimal {
+    ghost output = { λ n. Some (hexadecimal n.0) };
+
+    fn fmt<W: fmt::Write>(&self, f: &mut fmt::Formatter<W>) -> fmt::Result {
+        write!(f, "0x{:x}", self.0)
+    }
+}
 
 // The s of a plural: nothing where there is one.
 #[derive(Clone, Copy)]

@@ -2,7 +2,7 @@
 // a memory endpoint to the memory that it reaches; in red to `nowhere` from those that aim at nothing.
 use channels::{Channels, Missing, Place, Reach};
 use endpoint::{Endpoint, MemoryFields, SendFields};
-use form::{Allowed, Plural};
+use form::{Allowed, Hexadecimal, Plural};
 use std::io::{self, Write};
 
 fn from<W: Write>(out: &mut W, place: Place) -> io::Result<()> {
@@ -38,7 +38,12 @@ fn to_memory<W: Write>(out: &mut W, m: MemoryFields, reach: Reach) -> io::Result
         Allowed(m.rw),
         m.size
     )?;
-    writeln!(out, "{}\\nfrom {:#x}{end}];", Plural(m.size), m.addr)
+    writeln!(
+        out,
+        "{}\\nfrom {}{end}];",
+        Plural(m.size),
+        Hexadecimal(m.addr)
+    )
 }
 
 // The edge of the endpoint there, where it has one.

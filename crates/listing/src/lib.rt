@@ -6,7 +6,7 @@ use board::Board;
 use channels::phrases::{Credits, Tile};
 use channels::{Channels, Missing, Place, Reach};
 use endpoint::{Endpoint, MemoryFields, SendFields};
-use form::{Allowed, Plural};
+use form::{Allowed, Hexadecimal, Plural};
 use std::io::{self, Write};
 
 mod receivers;
@@ -54,7 +54,7 @@ fn credit_back<W: Write>(out: &mut W, s: SendFields) -> io::Result<()> {
 fn send<W: Write>(out: &mut W, s: SendFields, running: u16) -> io::Result<()> {
     addressee(out, s)?;
     message_size(out, s.msg_sz)?;
-    write!(out, "{}, label {:#x}", Credits(s), s.label)?;
+    write!(out, "{}, label {}", Credits(s), Hexadecimal(s.label))?;
     credit_back(out, s)?;
     activity(out, s.act, running)
 }
@@ -64,12 +64,12 @@ fn send<W: Write>(out: &mut W, s: SendFields, running: u16) -> io::Result<()> {
 fn memory<W: Write>(out: &mut W, m: MemoryFields, running: u16) -> io::Result<()> {
     write!(
         out,
-        "may {} tile {}: {} byte{} from {:#x}",
+        "may {} tile {}: {} byte{} from {}",
         Allowed(m.rw),
         m.tile,
         m.size,
         Plural(m.size),
-        m.addr
+        Hexadecimal(m.addr)
     )?;
     activity(out, m.act, running)
 }
@@ -120,7 +120,8 @@ fn tile<W: Write>(out: &mut W, channels: &Channels<'_>, tile: Tile) -> io::Resul
     }
     for (place, e) in channels.endpoints_of(tile.number) {
         if channels::is_open(e) {
-            write!(out, "{:>4}  ", place.ep)?;
+            output::decimal(out, place.ep as u64, 4)?;
+            write!(out, "  ")?;
             endpoint(out, channels, place, e, tile.running)?;
             writeln!(out)?;
         }

@@ -1,7 +1,7 @@
 // A receive endpoint's line of the sheet: its slots, its reply endpoints, and who sends to it.
 use channels::{Channels, Place};
 use endpoint::ReceiveFields;
-use form::Plural;
+use form::{Hexadecimal, Plural};
 use std::io::{self, Write};
 
 // So many senders are named; the others are counted.
@@ -12,9 +12,9 @@ fn slots<W: Write>(out: &mut W, r: ReceiveFields) -> io::Result<()> {
     let size = channels::power(r.slot_size);
     write!(
         out,
-        "receives: {n} slot{} of {size} bytes at {:#x}",
+        "receives: {n} slot{} of {size} bytes at {}",
         Plural(n),
-        r.buffer
+        Hexadecimal(r.buffer)
     )?;
     let occupied = r.occupied.count_ones();
     let unread = r.unread.count_ones();
@@ -50,15 +50,18 @@ pub fn receive<W: Write>(out: &mut W, r: ReceiveFields) -> io::Result<()> {
 // All that send to the receive endpoint there.
 pub fn senders<W: Write>(out: &mut W, channels: &Channels<'_>, receiver: Place) -> io::Result<()> {
     write!(out, "; from")?;
-    let found = channels.senders(receiver).count();
-    if found == 0 {
-        return write!(out, " nobody");
-    }
-    for (before, sender) in channels.senders(receiver).take(NAMED).enumerate() {
-        let comma = if before == 0 { "" } else { "," };
-        write!(out, "{comma} {sender}")?;
+    // The table is walked once: the senders that are not named are counted on the way.
+    let mut found: usize = 0;
+    for sender in channels.senders(receiver) {
+        match found {
+            0 => write!(out, " {sender}")?,
+            1..NAMED => write!(out, ", {sender}")?,
+            _ => {}
+        }
+        found = found.saturating_add(1);
     }
     match found.checked_sub(NAMED) {
+        _ if found == 0 => write!(out, " nobody"),
         None | Some(0) => Ok(()),
         Some(more) => write!(out, " and {more} more"),
     }

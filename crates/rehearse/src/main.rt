@@ -21,8 +21,8 @@ fn rehearse<W: Write>(alloc: Global, source: &[u8], mode: Mode, out: &mut W) -> 
     let checked = checking::check(source, out)?;
     match checked.board() {
         Some(board) => {
-            let system = System::new(alloc, board)?;
-            running::run(alloc, source, mode, system, out)
+            let mut system = System::new(alloc, board)?;
+            running::run(source, mode, &mut system, out)
         }
         None => mistakes::count(out, checked.mistakes),
     }
@@ -37,7 +37,12 @@ fn start<R: Read, W: Write>(
 ) -> io::Result<()> {
     let mut source = vec![in alloc; 0u8; LONGEST]?;
     match input::read_all(from, &mut source) {
-        Ok(size) => rehearse(alloc, &source[..size], mode, out),
+        Ok(size) => {
+            // What the script left free goes back before the board's memory is asked for.
+            source.truncate(size);
+            source.shrink_to_fit();
+            rehearse(alloc, &source, mode, out)
+        }
         Err(InputError::TooLong) => writeln!(
             out,
             "the script is longer than {LONGEST} bytes; nothing was run"

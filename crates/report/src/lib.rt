@@ -1,11 +1,17 @@
 // The lines that a run prints, in columns.
 #![tactic(auto)]
 
+ghost use Rattle.std.specs.Prelude.{OnOk, Some, ◌++◌, codes};
+ghost use Rattle.std.specs.Io.KnownBytes.{Appends};
+ghost use Rattle.report.specs.Lines.{header, tile, place, number_text, named, wrong_answer, wrong_arg1, counted, last_line};
+
+mod labels;
+
+use labels::Label;
 use language::{Named, Outcome};
 use script::Statement;
-use std::alloc::{AllocError, Global};
 use std::fmt::{self, Formatter};
-use std::io::{self, Write};
+use std::io::{self, ErrorKind, Write};
 
 // What a statement answered, and ARG_1 afterwards, where it is a command.
 #[derive(Clone, Copy)]
@@ -54,6 +60,8 @@ impl Tally {
 struct Counted(u64, &'static str);
 
 impl fmt::Display for Counted {
+    ghost output = { λ c. Some (counted c.0 c.1.now) };
+
     fn fmt<W: fmt::Write>(&self, f: &mut Formatter<W>) -> fmt::Result {
         let Counted(count, what) = *self;
         match count {
@@ -63,32 +71,13 @@ impl fmt::Display for Counted {
     }
 }
 
-pub fn header<W: Write>(out: &mut W) -> io::Result<()> {
+pub fn header<W: Write>(out: &mut W) -> io::Result<()>
+    ensures { OnOk result (Appends (W.contents out.old) (W.contents out.new) header) }
+{
     writeln!(
         out,
         " line  tile  statement            no  answer              ARG_1"
     )
-}
-
-// NAME ENDPOINT KIND, as much of it as a statement that answers has.
-fn label(alloc: Global, statement: &Statement<'_>) -> Result<String, AllocError> {
-    match statement {
-        Statement::Endpoint { at, given } => {
-            let (endpoint, kind) = (at.endpoint, given.kind().name());
-            format!(in alloc; "endpoint {endpoint} {kind}")
-        }
-        Statement::Invalidate(at) => {
-            let endpoint = at.endpoint;
-            format!(in alloc; "invalidate {endpoint}")
-        }
-        Statement::Command { keyword, at, .. } => {
-            let (name, endpoint) = (keyword.name(), at.endpoint);
-            format!(in alloc; "{name} {endpoint}")
-        }
-        Statement::Privileged { keyword, .. } => String::from_str(alloc, keyword.name()),
-        Statement::Respond { .. } => String::from_str(alloc, "respond"),
-        _ => String::from_str(alloc, "wiring"),
-    }
 }
 
 // The tile that a statement which answers is about; the wiring is about none.
@@ -103,56 +92,104 @@ fn tile_of(statement: &Statement<'_>) -> Option<u64> {
     }
 }
 
-// The line's number, the tile and the statement.
-fn place<W: Write>(out: &mut W, line: u64, tile: Option<u64>, label: &str) -> io::Result<()> {
-    match tile {
-        Some(tile) => write!(out, "{line:>5}  {tile:>4}  {label:<19} "),
-        None => write!(out, "{line:>5}     -  {label:<19} "),
+#[tactic(auto, using(output::proofs::Padding::right_aligned_decimal))]
+fn tile<W: Write>(out: &mut W, about: Option<u64>) -> io::Result<()>
+    ensures { OnOk result (Appends (W.contents out.old) (W.contents out.new) (tile about)) }
+{
+    match about {
+        Some(tile) => write!(out, "  {tile:>4}"),
+        None => write!(out, "     -"),
     }
 }
 
-// What a statement answered: the answer's number, where it has one, and its name.
+// The line's number, the tile and the statement.
+fn place<W: Write>(out: &mut W, line: u64, about: Option<u64>, label: &str) -> io::Result<()>
+    ensures { OnOk result (Appends (W.contents out.old) (W.contents out.new) (place line about label.now)) }
+{
+    output::decimal(out, line, 5)?;
+    tile(out, about)?;
+    write!(out, "  ")?;
+    output::left(out, label.as_bytes(), 19)?;
+    write!(out, " ")
+}
+
+// What is made of a label always has room in it.
+fn made(label: Result<Label, fmt::Error>) -> io::Result<Label> {
+    match label {
+        Ok(label) => Ok(label),
+        Err(_) => Err(ErrorKind::WriteZero.into()),
+    }
+}
+
+#[tactic(auto, using(output::proofs::Padding::right_aligned_decimal))]
+fn number<W: Write>(out: &mut W, number: Option<u32>) -> io::Result<()>
+    ensures { OnOk result (Appends (W.contents out.old) (W.contents out.new) (number_text number)) }
+{
+    match number {
+        Some(number) => write!(out, "{number:>3}  "),
+        None => write!(out, "  -  "),
+    }
+}
+
+// An answer's name, and ARG_1 after a command's.
+fn named<W: Write>(out: &mut W, name: &str, arg1: Option<u64>) -> io::Result<()>
+    ensures { OnOk result (Appends (W.contents out.old) (W.contents out.new) (named name.now arg1)) }
+{
+    match arg1 {
+        Some(arg1) => {
+            output::left(out, name.as_bytes(), 18)?;
+            writeln!(out, "  {arg1}")
+        }
+        None => writeln!(out, "{name}"),
+    }
+}
+
+// What a statement answered.
 pub fn answer_line<W: Write>(
     out: &mut W,
-    alloc: Global,
     line: u64,
     statement: &Statement<'_>,
     answered: Answered,
 ) -> io::Result<()> {
-    let label = label(alloc, statement)?;
+    let label = made(labels::of(statement))?;
     place(out, line, tile_of(statement), label.as_str())?;
-    match answered.outcome.number() {
-        Some(number) => write!(out, "{number:>3}  ")?,
-        None => write!(out, "  -  ")?,
-    }
-    let name = answered.outcome.name();
-    match answered.arg1 {
-        Some(arg1) => writeln!(out, "{name:<18}  {arg1}"),
-        None => writeln!(out, "{name}"),
-    }
+    let outcome = answered.outcome;
+    number(out, outcome.number())?;
+    named(out, outcome.name(), answered.arg1)
+}
+
+fn wrong_answer<W: Write>(out: &mut W, name: &str) -> io::Result<()>
+    ensures { OnOk result (Appends (W.contents out.old) (W.contents out.new) (wrong_answer name.now)) }
+{
+    writeln!(out, "  -  failed: the answer was {name}")
+}
+
+fn wrong_arg1<W: Write>(out: &mut W, arg1: u64, not: u64) -> io::Result<()>
+    ensures { OnOk result (Appends (W.contents out.old) (W.contents out.new) (wrong_arg1 arg1 not)) }
+{
+    writeln!(out, "  -  failed: ARG_1 was {arg1}, not {not}")
 }
 
 // A failed expectation: what was expected, and what was answered instead.
 pub fn failed_line<W: Write>(
     out: &mut W,
-    alloc: Global,
     line: u64,
     expected: Answered,
     answered: Answered,
 ) -> io::Result<()> {
-    let name = expected.outcome.name();
-    let label = format!(in alloc; "expect {name}")?;
+    let label = made(labels::expected(expected.outcome.name()))?;
     place(out, line, None, label.as_str())?;
     if answered.outcome != expected.outcome {
-        let name = answered.outcome.name();
-        return writeln!(out, "  -  failed: the answer was {name}");
+        return wrong_answer(out, answered.outcome.name());
     }
-    let (arg1, not) = (answered.arg1.unwrap_or(0), expected.arg1.unwrap_or(0));
-    writeln!(out, "  -  failed: ARG_1 was {arg1}, not {not}")
+    wrong_arg1(out, answered.arg1.unwrap_or(0), expected.arg1.unwrap_or(0))
 }
 
 // The last line.
-pub fn last_line<W: Write>(out: &mut W, tally: Tally) -> io::Result<()> {
+pub fn last_line<W: Write>(out: &mut W, tally: Tally) -> io::Result<()>
+    ensures { OnOk result (Appends (W.contents out.old) (W.contents out.new)
+        (last_line tally.commands tally.refusals tally.expectations tally.failed)) }
+{
     let commands = Counted(tally.commands, "command");
     let refusals = Counted(tally.refusals, "refusal");
     let expectations = Counted(tally.expectations, "expectation");
@@ -172,8 +209,7 @@ mod tests {
 
     #[test]
     fn lines(rt: HostRuntime) -> Result<(), Fail> {
-        let alloc = rt.alloc();
-        let mut out: Vec<u8> = Vec::new(alloc);
+        let mut out: Vec<u8> = Vec::new(rt.alloc());
         let registers = command::Registers {
             arg0: 0,
             addr: 0,
@@ -197,11 +233,11 @@ mod tests {
             outcome: Outcome::Done,
             arg1: Some(77),
         };
-        answer_line(&mut out, alloc, 12, &statement, answered)?;
+        answer_line(&mut out, 12, &statement, answered)?;
         let line = "   12     0  SEND 4                0  NONE                77\n";
         assert_eq!(rt; out.as_slice(), line.as_bytes());
         out.clear();
-        failed_line(&mut out, alloc, 13, expected, answered)?;
+        failed_line(&mut out, 13, expected, answered)?;
         let line = "   13     -  expect NONE           -  failed: ARG_1 was 77, not 78\n";
         assert_eq!(rt; out.as_slice(), line.as_bytes());
         Ok(())

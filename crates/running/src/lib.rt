@@ -4,7 +4,6 @@
 use report::{Answered, Tally};
 use script::{Context, Statement};
 use statements::System;
-use std::alloc::Global;
 use std::io::{self, Write};
 
 // What is printed: a line for each answer and what the statements print, or the sheet or the drawing at the end alone.
@@ -18,17 +17,16 @@ pub enum Mode {
 // What a run keeps from line to line: what is printed, the line's number, what the lines before it said, the last answer, and
 // the tally.
 #[derive(Drop)]
-struct Rehearsal {
-    alloc: Global,
+struct Rehearsal<'a> {
     mode: Mode,
-    system: System,
+    system: &'a mut System,
     line: u64,
     context: Context,
     last: Option<Answered>,
     tally: Tally,
 }
 
-impl Rehearsal {
+impl Rehearsal<'_> {
     // A statement answered.
     fn answer<W: Write>(
         &mut self,
@@ -39,7 +37,7 @@ impl Rehearsal {
         self.last = Some(answered);
         self.tally.count(answered);
         if self.mode == Mode::Whole {
-            report::answer_line(out, self.alloc, self.line, statement, answered)?;
+            report::answer_line(out, self.line, statement, answered)?;
         }
         Ok(())
     }
@@ -52,7 +50,7 @@ impl Rehearsal {
         let met = last.meets(expected);
         self.tally.expect(met);
         if !met && self.mode == Mode::Whole {
-            report::failed_line(out, self.alloc, self.line, expected, last)?;
+            report::failed_line(out, self.line, expected, last)?;
         }
         Ok(())
     }
@@ -114,17 +112,15 @@ impl Rehearsal {
 
 // Runs a script that has no mistake.
 pub fn run<W: Write>(
-    alloc: Global,
     source: &[u8],
     mode: Mode,
-    system: System,
+    system: &mut System,
     out: &mut W,
 ) -> io::Result<()> {
     if mode == Mode::Whole {
         report::header(out)?;
     }
     let mut rehearsal = Rehearsal {
-        alloc,
         mode,
         system,
         line: 0,

@@ -1,6 +1,6 @@
 // One endpoint as the statement of docs/SCRIPT.md that configures it, with every field named.
 use endpoint::{Endpoint, MemoryFields, ReceiveFields, SendFields};
-use form::{Credits, EndpointOrNone, Permission};
+use form::{Credits, EndpointOrNone, Hexadecimal, Permission};
 use std::io::{self, Write};
 
 fn send<W: Write>(out: &mut W, s: SendFields) -> io::Result<()> {
@@ -23,7 +23,7 @@ fn send<W: Write>(out: &mut W, s: SendFields) -> io::Result<()> {
         " tgt_chip={} crd_ep={crd_ep} reply={reply}",
         s.tgt_chip
     )?;
-    writeln!(out, " label={:#x}", s.label)
+    writeln!(out, " label={}", Hexadecimal(s.label))
 }
 
 fn receive<W: Write>(out: &mut W, r: ReceiveFields) -> io::Result<()> {
@@ -35,20 +35,20 @@ fn receive<W: Write>(out: &mut W, r: ReceiveFields) -> io::Result<()> {
     )?;
     write!(
         out,
-        " buffer={:#x} rpl_eps={rpl_eps} wpos={}",
-        r.buffer, r.wpos
+        " buffer={} rpl_eps={rpl_eps} wpos={}",
+        Hexadecimal(r.buffer),
+        r.wpos
     )?;
-    writeln!(
-        out,
-        " rpos={} occupied={:#x} unread={:#x}",
-        r.rpos, r.occupied, r.unread
-    )
+    let occupied = Hexadecimal(u64::from(r.occupied));
+    let unread = Hexadecimal(u64::from(r.unread));
+    writeln!(out, " rpos={} occupied={occupied} unread={unread}", r.rpos)
 }
 
 fn memory<W: Write>(out: &mut W, m: MemoryFields) -> io::Result<()> {
     let rw = Permission(m.rw);
     write!(out, " memory act={} rw={rw} tile={}", m.act, m.tile)?;
-    writeln!(out, " addr={:#x} size={} chip={}", m.addr, m.size, m.chip)
+    let addr = Hexadecimal(m.addr);
+    writeln!(out, " addr={addr} size={} chip={}", m.size, m.chip)
 }
 
 pub fn endpoint<W: Write>(out: &mut W, tile: u64, ep: u64, e: Endpoint) -> io::Result<()> {
