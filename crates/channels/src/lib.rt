@@ -127,7 +127,11 @@ pub struct Senders<'a> {
 }
 
 impl<'a> Iterator for Senders<'a> {
+    ghost use Rattle.channels.specs.Endpoints.{TakesSender};
+
     type Item = Place;
+
+    ghost next_gives = { TakesSender };
 
     ghost remaining = { λ s. at_most (length s.endpoints.words.now) };
 
