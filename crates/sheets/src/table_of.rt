@@ -5,7 +5,7 @@ ghost use Rattle.std.specs.Prelude.{◌<◌};
 use endpoint::{Endpoint, MemoryFields, ReceiveFields, SendFields};
 
 // Three tiles.
-#[derive(Drop)]
+#[derive(Clone, Copy)]
 pub struct Table {
     pub words: [u64; 576],
 }
