@@ -84,10 +84,13 @@ pub fn write_words(words: &mut [u64], tile: usize, ep: u64, w: Words)
 
 // Is the q-th endpoint of all acceptable in its own tile's memory?
 fn acceptable_at(b: Board, words: &[u64], q: u64) -> bool
-    requires { q * 3 + 2 < length words.now }
+    requires { (q < 512) × (q * 3 + 2 < length words.now) }
     ensures { result ≡ acceptable_at b words.now q }
 {
-    endpoint::acceptable_words(board::size(b, q / 64), read_nth(words, q as usize))
+    // A tile's number is below 8, and `% 8` says so to the compiler, which else tests at each endpoint, in every call of the
+    // machine, whether the board has a size for it.
+    let memory = board::size(b, q / 64 % 8);
+    endpoint::acceptable_words(memory, read_nth(words, q as usize))
 }
 
 // Is each endpoint acceptable? It runs on every call of the machine.
